@@ -1,0 +1,26 @@
+-- The theorems, in reading order.
+
+-- layouts that fit, and the test that decides it
+pub mod Layouts
+pub mod Decision
+-- equations, what they say of a position, and how they come apart in blocks and groups
+pub mod Equations
+pub mod Frontier
+pub mod Blocks
+pub mod Groups
+-- demand 3 of every judge: its runs, the solver, the two halves of the proof, and the theorem
+pub mod Own
+pub mod Admitted
+pub mod Runs
+pub mod Solver
+pub mod Covers
+pub mod Within
+pub mod Pictures
+pub mod Confluence
+-- demand 3 of the passes over any sound and complete rule, and such a rule
+pub mod Rules
+pub mod Steps
+pub mod Passes
+pub mod Enough
+pub mod Exhaustive
+pub mod Examples

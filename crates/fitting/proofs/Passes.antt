@@ -1,0 +1,172 @@
+-- The verdict's passes over a rule that is sound and complete are a judged run, so demand 3 holds of `judge`, whatever else the rule is. What each pass
+-- keeps, the ending has (`passes-keep`): so the board's own layout fits wherever the passes come to, rounds never exceed the cells, and the grade is at
+-- most the greatest that the rule gives. Rests on Steps and Confluence. Assumes nothing.
+use mathlib.Core.Path.{_≡_, refl, sym, _∙_}
+use mathlib.Core.Logic.{_⊎_, inl, inr, _≢_, _↔_}
+use mathlib.Core.Bool.{true, false, _||_}
+use mathlib.Core.List.{List}
+use Prim.Native.Nat.{ℕ, zero, suc, _+_, _≤_, _<_, max}
+use native.Mathlib.Omega.{arith}
+use native.Mathlib.Nat.{max-le}
+use lib.ListN.{length}
+use lib.Dec.{leb, eqb}
+use borrow.Author.Tests.{eqb-false, ne-eqb, leb-true, le-leb}
+use Rattle.lists.proofs.Tests.{Decided, decided, clash, every-at, every-of}
+use Rattle.lists.proofs.Counts.{count-le}
+use Rattle.grid.specs.Cells.{cellOf, shows}
+use Rattle.fitting.specs.Layouts.{Fits}
+use Rattle.fitting.specs.Boards.{own, Accepted, AllOpen}
+use Rattle.fitting.specs.Solver.{first}
+use Rattle.fitting.specs.Demand.{picture, opened, Demand3}
+use Rattle.fitting.specs.Passes.{Found, nothing, pass, allOpen, Ending, passes, judge}
+use Rattle.fitting.specs.Rules.{Sound, Complete}
+use Rattle.fitting.proofs.Layouts.{on-board}
+use Rattle.fitting.proofs.Own.{fit-length, first-own}
+use Rattle.fitting.proofs.Runs.{Run, Stuck, run-join, run-own}
+use Rattle.fitting.proofs.Steps.{beginning, closed, closed-less, begin-run, pass-run, pass-less}
+use Rattle.fitting.proofs.Confluence.{demand-3, demand-3-unique}
+
+-- the test `allOpen` passes exactly where all safe cells are open
+pub allOpen-at : (b p : List ℕ) → allOpen b p ≡ true → AllOpen b p
+unfolding allOpen
+allOpen-at b p h c l n =
+    leb-true (shows p c) 8 (rw (ne-eqb (cellOf b c) 255 n) at (every-at (length b) (λ d. eqb (cellOf b d) 255 || leb (shows p d) 8) h c l))
+
+pub allOpen-of : (b p : List ℕ) → AllOpen b p → allOpen b p ≡ true
+unfolding allOpen
+allOpen-of b p h = every-of (length b) (λ d. eqb (cellOf b d) 255 || leb (shows p d) 8) (λ c l. go c l (decided (eqb (cellOf b c) 255)))
+  where
+    go : (c : ℕ) → c < length b → Decided (eqb (cellOf b c) 255) → (eqb (cellOf b c) 255 || leb (shows p c) 8) ≡ true
+    go c l (inl e) = rw e
+    go c l (inr e) = rw e (le-leb (shows p c) 8 (h c l (eqb-false (cellOf b c) 255 e)))
+
+-- ---- the board's own layout fits at each pass, so that no rule meets a contradiction on the way
+
+-- it fits where the passes begin
+pub begin-own : (near : ℕ → List ℕ) (b : List ℕ) (s : ℕ) → Accepted near b → s < length b → cellOf b s ≢ 255
+    → Fits near (beginning near b s) (own b)
+begin-own near b s ok l n = run-own near b ok (first-own near b ok s l n) (begin-run near b ok s l n)
+
+-- no more are closed there than there are cells
+begin-closed : (near : ℕ → List ℕ) (b : List ℕ) (s : ℕ) → Accepted near b → s < length b → cellOf b s ≢ 255 → closed (beginning near b s) ≤ length b
+begin-closed near b s ok l n =
+    omega (arith, count-le (λ v. eqb v 10) (beginning near b s), fit-length near b (beginning near b s) (begin-own near b s ok l n))
+
+-- and it fits after a pass, if it did before
+pub pass-own : (near : ℕ → List ℕ) (b : List ℕ) (rule : List ℕ → Found) (p : List ℕ) → Accepted near b → Sound near b rule
+    → Fits near p (own b) → Fits near (pass near b p (rule p)) (own b)
+pass-own near b rule p ok sound fit = run-own near b ok fit (pass-run near b ok rule sound p fit)
+
+-- ---- how the passes end
+
+-- the ending of a pass that finds a cell and of at most k passes more
+abbrev pub passesOn : (ℕ → List ℕ) → List ℕ → (List ℕ → Found) → ℕ → List ℕ → ℕ → ℕ → Ending
+passesOn near b rule k p grade rounds = passes near b rule k (pass near b p (rule p)) (max grade (rule p .grade)) (rounds + 1)
+
+-- the passes are at their end: all safe cells are open or the frontier is stuck, and the answer says which
+abbrev Ended : (ℕ → List ℕ) → List ℕ → Ending → Type 0
+Ended near b e = (AllOpen b (e .position) ⊎ Stuck near (e .position)) × ((e .yes ≡ true) ↔ AllOpen b (e .position))
+
+-- as many passes as there are closed cells are enough for that
+passes-end : (near : ℕ → List ℕ) (b : List ℕ) (rule : List ℕ → Found) → Accepted near b → Sound near b rule → Complete near b rule
+    → (k : ℕ) (p : List ℕ) (grade rounds : ℕ) → Fits near p (own b) → closed p ≤ k → Ended near b (passes near b rule k p grade rounds)
+passes-end near b rule ok sound complete zero p grade rounds fit h = (
+  inr (λ c d e _ _. absurd (omega (arith, closed-less p c 0 e (on-board p c (omega arith)) (omega arith)))),
+  (allOpen-at b p, allOpen-of b p),
+)
+passes-end near b rule ok sound complete (suc k) p grade rounds fit h =
+    go (decided (allOpen b p)) (decided (nothing (rule p)))
+    (λ e. passes-end near b rule ok sound complete k (pass near b p (rule p)) (max grade (rule p .grade)) (rounds + 1)
+    (pass-own near b rule p ok sound fit) (omega (arith, pass-less near b ok rule sound p fit e)))
+  where
+    go : Decided (allOpen b p) → Decided (nothing (rule p)) → (nothing (rule p) ≡ false → Ended near b (passesOn near b rule k p grade rounds))
+        → Ended near b (passes near b rule (suc k) p grade rounds)
+    go (inl a) e later = rw a (inl (allOpen-at b p a), (λ _. allOpen-at b p a, λ _. refl))
+    go (inr a) (inl e) later =
+        rw (a, e) (inr (complete .witness p fit e), (λ x. clash true refl (sym x), λ x. sym (sym (allOpen-of b p x) ∙ a)))
+    go (inr a) (inr e) later = rw (a, e) (later e)
+
+-- a claim about a position, a grade and rounds is kept by each pass that finds a cell
+abbrev pub Keeps : (ℕ → List ℕ) → List ℕ → (List ℕ → Found) → (List ℕ → ℕ → ℕ → Type 0) → Type 0
+Keeps near b rule Claim = (p : List ℕ) (grade rounds : ℕ) → nothing (rule p) ≡ false → Claim p grade rounds
+    → Claim (pass near b p (rule p)) (max grade (rule p .grade)) (rounds + 1)
+
+-- the claim, of an ending
+abbrev pub AtEnd : (List ℕ → ℕ → ℕ → Type 0) → Ending → Type 0
+AtEnd Claim e = Claim (e .position) (e .grade) (e .rounds)
+
+-- what each pass keeps, the ending has
+pub passes-keep : (near : ℕ → List ℕ) (b : List ℕ) (rule : List ℕ → Found) (Claim : List ℕ → ℕ → ℕ → Type 0) → Keeps near b rule Claim
+    → (k : ℕ) (p : List ℕ) (grade rounds : ℕ) → Claim p grade rounds → AtEnd Claim (passes near b rule k p grade rounds)
+passes-keep near b rule Claim keeps zero p grade rounds h = h
+passes-keep near b rule Claim keeps (suc k) p grade rounds h =
+    go (decided (allOpen b p)) (decided (nothing (rule p)))
+    (λ e. passes-keep near b rule Claim keeps k (pass near b p (rule p)) (max grade (rule p .grade)) (rounds + 1) (keeps p grade rounds e h))
+  where
+    go : Decided (allOpen b p) → Decided (nothing (rule p)) → (nothing (rule p) ≡ false → AtEnd Claim (passesOn near b rule k p grade rounds))
+        → AtEnd Claim (passes near b rule (suc k) p grade rounds)
+    go (inl a) e later = rw a h
+    go (inr a) (inl e) later = rw (a, e) h
+    go (inr a) (inr e) later = rw (a, e) (later e)
+
+-- the board's own layout fits where the passes end
+pub judge-own : (near : ℕ → List ℕ) (b : List ℕ) (rule : List ℕ → Found) (s : ℕ) → Accepted near b → s < length b → cellOf b s ≢ 255
+    → Sound near b rule → Fits near (judge near b rule s .position) (own b)
+unfolding judge
+judge-own near b rule s ok l n sound =
+    passes-keep near b rule (λ p _ _. Fits near p (own b)) (λ p _ _ _ fit. pass-own near b rule p ok sound fit)
+    (length b) (beginning near b s) 0 0 (begin-own near b s ok l n)
+
+-- ---- demand 3
+
+-- demand 3 of the passes over any rule that is sound and complete
+pub judge-demand-3 : (near : ℕ → List ℕ) (b : List ℕ) (rule : List ℕ → Found) (s : ℕ) → Accepted near b → s < length b → cellOf b s ≢ 255
+    → Sound near b rule → Complete near b rule
+    → Demand3 near b s (judge near b rule s .yes) (opened (judge near b rule s .position)) (picture (judge near b rule s .position))
+unfolding judge
+judge-demand-3 near b rule s ok l n sound complete =
+    let p = beginning near b s in
+    let fit = first-own near b ok s l n in
+    let (ends, verdict) = passes-end near b rule ok sound complete (length b) p 0 0 (begin-own near b s ok l n) (begin-closed near b s ok l n) in
+    demand-3 near b s (passes near b rule (length b) p 0 0 .position) (passes near b rule (length b) p 0 0 .yes) ok l n (record {
+      run = passes-keep near b rule (λ q _ _. Run near b (first b s) q)
+          (λ q _ _ _ r. run-join near b r (pass-run near b ok rule sound q (run-own near b ok fit r))) (length b) p 0 0 (begin-run near b ok s l n);
+      ends = ends;
+      verdict = verdict;
+    })
+
+-- so what the rules are, and in what order they find cells, makes no difference to verdict, count and picture
+pub rules-agree : (near : ℕ → List ℕ) (b : List ℕ) (rule other : List ℕ → Found) (s : ℕ) → Accepted near b → s < length b → cellOf b s ≢ 255
+    → Sound near b rule → Complete near b rule → Sound near b other → Complete near b other
+    → (judge near b rule s .yes ≡ judge near b other s .yes)
+    × (opened (judge near b rule s .position) ≡ opened (judge near b other s .position))
+    × (picture (judge near b rule s .position) ≡ picture (judge near b other s .position))
+rules-agree near b rule other s ok l n sound complete sound-other complete-other =
+    demand-3-unique near b s (judge near b rule s .yes) (judge near b other s .yes)
+    (opened (judge near b rule s .position)) (opened (judge near b other s .position))
+    (picture (judge near b rule s .position)) (picture (judge near b other s .position))
+    (judge-demand-3 near b rule s ok l n sound complete) (judge-demand-3 near b other s ok l n sound-other complete-other)
+
+-- ---- rounds and grade
+
+-- each round leaves fewer closed cells, so that rounds never exceed the cells
+pub rounds-cells : (near : ℕ → List ℕ) (b : List ℕ) (rule : List ℕ → Found) (s : ℕ) → Accepted near b → s < length b → cellOf b s ≢ 255
+    → Sound near b rule → judge near b rule s .rounds ≤ length b
+unfolding judge
+rounds-cells near b rule s ok l n sound = omega (arith, kept .1)
+  where
+    Few : List ℕ → ℕ → ℕ → Type 0
+    Few p grade rounds = Fits near p (own b) × (rounds + closed p ≤ length b)
+
+    kept : AtEnd Few (passes near b rule (length b) (beginning near b s) 0 0)
+    kept = passes-keep near b rule Few
+        (λ p _ rounds e h. (pass-own near b rule p ok sound (h .0), omega (arith, pass-less near b ok rule sound p (h .0) e, h .1)))
+        (length b) (beginning near b s) 0 0 (begin-own near b s ok l n, omega (arith, begin-closed near b s ok l n))
+
+-- the grade is at most the greatest with which the rule finds a cell
+pub grade-bound : (near : ℕ → List ℕ) (b : List ℕ) (rule : List ℕ → Found) (s g : ℕ)
+    → ((p : List ℕ) → nothing (rule p) ≡ false → rule p .grade ≤ g) → judge near b rule s .grade ≤ g
+unfolding judge
+grade-bound near b rule s g h =
+    passes-keep near b rule (λ _ grade _. grade ≤ g) (λ p _ _ e w. max-le w (h p e))
+    (length b) (beginning near b s) 0 0 (omega arith)

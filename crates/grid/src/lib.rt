@@ -1,0 +1,2 @@
+// Boards and positions as bytes, and the one neighbour window.
+pub mod window;

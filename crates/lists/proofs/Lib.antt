@@ -1,0 +1,15 @@
+-- The laws of the words about lists and tests, from the answers of tests to arrays.
+pub mod Tests
+pub mod Members
+pub mod Counts
+pub mod Elements
+pub mod All
+pub mod FirstPlaces
+pub mod Rising
+pub mod Rearranged
+pub mod Unions
+pub mod Joined
+-- arrays with a count, and loops over a list
+pub mod Arrays
+pub mod Collected
+pub mod Loops

@@ -1,0 +1,136 @@
+-- What an acceptance tells: of each kind of call a record of facts about its input, from the definitions alone. Rests on the laws of the single tests
+-- and on the rule of the first failure. Assumes nothing.
+use mathlib.Core.Path.{_≡_}
+use mathlib.Core.Logic.{_⊎_, _≢_}
+use mathlib.Core.Bool.{true, _&&_}
+use mathlib.Core.List.{List}
+use Prim.Native.Nat.{ℕ, _*_, _≤_, _<_}
+use lib.ListN.{length}
+use Rattle.lists.proofs.Tests.{and-left, and-right, every-at}
+use Rattle.lists.proofs.All.{all-at}
+use Rattle.grid.specs.Cells.{isBoardCell, isPositionCell, cellOf, shows}
+use Rattle.grid.specs.Window.{neighbours, Board}
+use Rattle.refusals.specs.declared.Tested.the-variants.{Accepted}
+use Rattle.refusals.specs.Tests.{sizeOk, lengthOk, roomOk, boardCellsOk, positionCellsOk, startOk, minesBeside, numbersOk, zeroOk, startCell, boardTested, positionTested, deductionTested, patternTested}
+use Rattle.refusals.proofs.Starts.{startCell-within}
+use Rattle.refusals.proofs.CellValues.{board-cell, position-shows}
+use Rattle.refusals.proofs.Numbers.{numberOk, number-counts}
+use Rattle.refusals.proofs.FirstFailure.{accepted-on}
+pub use Rattle.refusals.proofs.Sides.{few-cells, sizeOk-sized, sizeOk-rows, sizeOk-columns, lengthOk-is, roomOk-fits}
+
+pub record AcceptedBoard (rows columns row column : ℕ) (b : List ℕ) (n : ℕ) : Type 0 where
+  pub board : Board b rows columns
+  pub some-rows : 1 ≤ rows
+  pub some-columns : 1 ≤ columns
+  pub picture : n ≡ rows * columns
+  pub cells : boardCellsOk b ≡ true
+  pub start : startOk rows columns row column ≡ true
+  pub numbers : numbersOk (neighbours rows columns) b ≡ true
+  pub has-zero : zeroOk row column b ≡ true
+  pub start-within : startCell columns row column b < length b
+
+pub record AcceptedPosition (rows columns : ℕ) (p : List ℕ) : Type 0 where
+  pub board : Board p rows columns
+  pub some-rows : 1 ≤ rows
+  pub some-columns : 1 ≤ columns
+  pub cells : positionCellsOk p ≡ true
+
+pub record AcceptedDeduction (rows columns : ℕ) (p : List ℕ) (safe mines : ℕ) : Type 0 where
+  pub position : AcceptedPosition rows columns p
+  pub safe-room : rows * columns ≤ safe
+  pub mines-room : rows * columns ≤ mines
+
+pub record AcceptedPattern (rows columns : ℕ) (b : List ℕ) : Type 0 where
+  pub board : Board b rows columns
+  pub three-rows : 3 ≤ rows
+  pub three-columns : 3 ≤ columns
+  pub cells : boardCellsOk b ≡ true
+
+-- tests 1 and 2: a list with one element for each cell
+sized-board : (least rows columns : ℕ) (b : List ℕ) → sizeOk least rows columns ≡ true → lengthOk rows columns (length b) ≡ true → Board b rows columns
+sized-board least rows columns b size whole =
+    record { sized = sizeOk-sized least rows columns size; whole = lengthOk-is rows columns (length b) whole }
+
+pub accepted-board : (rows columns row column : ℕ) (b : List ℕ) (n : ℕ) → boardTested rows columns row column b n ≡ Accepted → AcceptedBoard rows columns row column b n
+unfolding boardTested
+accepted-board rows columns row column b n h =
+    let own = lengthOk rows columns (length b) in
+    let lent = lengthOk rows columns n in
+    let (size, after-size) = accepted-on (sizeOk 1 rows columns) _ _ h in
+    let (lengths, after-lengths) = accepted-on (own && lent) _ _ after-size in
+    let (cells, after-cells) = accepted-on (boardCellsOk b) _ _ after-lengths in
+    let (start, after-start) = accepted-on (startOk rows columns row column) _ _ after-cells in
+    let (numbers, after-numbers) = accepted-on (numbersOk (neighbours rows columns) b) _ _ after-start in
+    let (has-zero, _) = accepted-on (zeroOk row column b) _ _ after-numbers in
+    let board = sized-board 1 rows columns b size (and-left own lent lengths) in
+    record {
+      board = board;
+      some-rows = sizeOk-rows 1 rows columns size;
+      some-columns = sizeOk-columns 1 rows columns size;
+      picture = lengthOk-is rows columns n (and-right own lent lengths);
+      cells = cells;
+      start = start;
+      numbers = numbers;
+      has-zero = has-zero;
+      start-within = startCell-within rows columns row column start b (board .whole) has-zero;
+    }
+
+position-facts : (rows columns : ℕ) (p : List ℕ) → sizeOk 1 rows columns ≡ true → lengthOk rows columns (length p) ≡ true → positionCellsOk p ≡ true → AcceptedPosition rows columns p
+position-facts rows columns p size whole cells =
+    record {
+      board = sized-board 1 rows columns p size whole;
+      some-rows = sizeOk-rows 1 rows columns size;
+      some-columns = sizeOk-columns 1 rows columns size;
+      cells = cells;
+    }
+
+pub accepted-position : (rows columns : ℕ) (p : List ℕ) → positionTested rows columns p ≡ Accepted → AcceptedPosition rows columns p
+unfolding positionTested
+accepted-position rows columns p h =
+    let (size, after-size) = accepted-on (sizeOk 1 rows columns) _ _ h in
+    let (whole, after-length) = accepted-on (lengthOk rows columns (length p)) _ _ after-size in
+    let (cells, _) = accepted-on (positionCellsOk p) _ _ after-length in
+    position-facts rows columns p size whole cells
+
+pub accepted-deduction : (rows columns : ℕ) (p : List ℕ) (safe mines : ℕ) → deductionTested rows columns p safe mines ≡ Accepted → AcceptedDeduction rows columns p safe mines
+unfolding deductionTested
+accepted-deduction rows columns p safe mines h =
+    let own = lengthOk rows columns (length p) in
+    let safe-ok = roomOk rows columns safe in
+    let mines-ok = roomOk rows columns mines in
+    let (size, after-size) = accepted-on (sizeOk 1 rows columns) _ _ h in
+    let (lengths, after-lengths) = accepted-on (own && (safe-ok && mines-ok)) _ _ after-size in
+    let (cells, _) = accepted-on (positionCellsOk p) _ _ after-lengths in
+    let rooms = and-right own (safe-ok && mines-ok) lengths in
+    record {
+      position = position-facts rows columns p size (and-left own (safe-ok && mines-ok) lengths) cells;
+      safe-room = roomOk-fits rows columns safe (and-left safe-ok mines-ok rooms);
+      mines-room = roomOk-fits rows columns mines (and-right safe-ok mines-ok rooms);
+    }
+
+pub accepted-pattern : (rows columns : ℕ) (b : List ℕ) → patternTested rows columns b ≡ Accepted → AcceptedPattern rows columns b
+unfolding patternTested
+accepted-pattern rows columns b h =
+    let (size, after-size) = accepted-on (sizeOk 3 rows columns) _ _ h in
+    let (whole, after-length) = accepted-on (lengthOk rows columns (length b)) _ _ after-size in
+    let (cells, _) = accepted-on (boardCellsOk b) _ _ after-length in
+    record {
+      board = sized-board 3 rows columns b size whole;
+      three-rows = sizeOk-rows 3 rows columns size;
+      three-columns = sizeOk-columns 3 rows columns size;
+      cells = cells;
+    }
+
+-- ---- cell by cell
+
+pub board-cell-at : (b : List ℕ) → boardCellsOk b ≡ true → (c : ℕ) → c < length b → (cellOf b c ≡ 255) ⊎ (cellOf b c ≤ 8)
+unfolding boardCellsOk
+board-cell-at b ok c w = board-cell (cellOf b c) (all-at isBoardCell b c 0 ok w)
+
+pub position-cell-at : (p : List ℕ) → positionCellsOk p ≡ true → (c : ℕ) → c < length p → (shows p c ≤ 8) ⊎ (shows p c ≡ 10) ⊎ (shows p c ≡ 11) ⊎ (shows p c ≡ 12)
+unfolding positionCellsOk
+position-cell-at p ok c w = position-shows (shows p c) (all-at isPositionCell p c 255 ok w)
+
+pub number-at : (near : ℕ → List ℕ) (b : List ℕ) → numbersOk near b ≡ true → (c : ℕ) → c < length b → cellOf b c ≢ 255 → minesBeside near b c ≡ cellOf b c
+unfolding numbersOk
+number-at near b ok c w safe = number-counts near b c (every-at (length b) (numberOk near b) ok c w) safe

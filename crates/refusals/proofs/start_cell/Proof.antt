@@ -1,0 +1,39 @@
+-- `start_cell` meets its contract: the two arms are those of the definition, and a start on the board has a number below rows × columns, which fits.
+-- Rests on the contracts of `is_open_start` and `first_zero`. Assumes nothing.
+use mathlib.Core.Path.{sym, _∙_}
+use native.Mathlib.Omega.{arith}
+use borrow.Author.Needs.{needs}
+use Rattle.refusals.specs.Tests.{startCell}
+use Rattle.refusals.proofs.Sides.{few-cells}
+use Rattle.refusals.proofs.Starts.{start-on-board}
+use Rattle.refusals.proofs.start_cell.Statement.{statement}
+use Rattle.refusals.proofs.start_cell.Tie as tie
+
+is-open-start-requires : tie.Need-is-open-start-requires
+is-open-start-requires c κs = search needs
+
+first-zero-requires : tie.Need-first-zero-requires
+first-zero-requires c κs = search needs
+
+returns : tie.Need-returns
+unfolding startCell
+returns c = rw (← c .before .before .is-open-start .ensures, c .before .if1 .taken) (c .first-zero .ensures)
+
+mul-result : tie.Need-mul-result
+mul-result c =
+    let start = c .before .before .before in
+    omega (arith, few-cells (start .pre .0), start-on-board _ _ _ _ (start .pre .1) (sym (c .before .is-open-start .ensures) ∙ c .if1 .left))
+
+add-result : tie.Need-add-result
+add-result c =
+    let start = c .before .before .before in
+    omega (arith, few-cells (start .pre .0), start-on-board _ _ _ _ (start .pre .1) (sym (c .before .is-open-start .ensures) ∙ c .if1 .left))
+
+returns-2 : tie.Need-returns-2
+unfolding startCell
+returns-2 c = rw (← c .before .is-open-start .ensures, c .if1 .left)
+
+pub start-cell-spec : {M : Type 1} → statement M
+start-cell-spec =
+    tie.close
+    (tie.spec is-open-start-requires first-zero-requires returns mul-result add-result returns-2)

@@ -1,0 +1,40 @@
+-- The refusals of document 01's table, each with its number, and the rule "lowest number first where several apply". Assumes nothing.
+use mathlib.Core.Bool.{Bool, cond}
+use mathlib.Core.List.{List, [], _∷_}
+use Prim.Native.Nat.{ℕ}
+use Rattle.refusals.specs.declared.Refusal.{Refusal}
+use Rattle.refusals.specs.declared.Refusal.the-variants.{Size, Length, Cell, Start, Number, Contradiction, NoZero, Block, Table, Mark, Short}
+use Rattle.refusals.specs.declared.Tested.{Tested}
+use Rattle.refusals.specs.declared.Tested.the-variants.{Accepted, Refused}
+
+-- 01's number of a refusal
+abbrev pub refusalNumber : Refusal → ℕ
+refusalNumber Size = 1
+refusalNumber Length = 2
+refusalNumber Cell = 3
+refusalNumber Start = 4
+refusalNumber Number = 5
+refusalNumber Contradiction = 6
+refusalNumber NoZero = 7
+refusalNumber Block = 8
+refusalNumber Table = 9
+refusalNumber Mark = 10
+refusalNumber Short = 11
+
+-- the number that a caller sees: 0 where nothing is refused
+abbrev pub testedNumber : Tested → ℕ
+testedNumber Accepted = 0
+testedNumber (Refused r) = refusalNumber r
+
+-- a test with the refusal that its failure gives
+pub record Test : Type 0 where
+  pub passes : Bool
+  pub else : Refusal
+
+abbrev pub test : Bool → Refusal → Test
+test passes else = record { passes = passes; else = else }
+
+-- the first test that fails gives its refusal
+abbrev pub tested : List Test → Tested
+tested [] = Accepted
+tested (t ∷ ts) = cond (t .passes) (tested ts) (Refused (t .else))

@@ -1,0 +1,103 @@
+-- The tests of refusals 1, 2, 3, 4, 5 and 7 of document 01's table, each as a Bool that is true where the input passes, and the lists of tests that
+-- each kind of call makes, in 01's order. Assumes nothing.
+use mathlib.Core.Bool.{Bool, not, cond, _&&_, _||_}
+use mathlib.Core.List.{List, [], _∷_}
+use Prim.Native.Nat.{ℕ, _+_, _*_}
+use lib.Dec.{leb, ltb, eqb}
+use lib.ListN.{length}
+use Rattle.lists.specs.Lists.{every, all, any, count, firstPlace}
+use Rattle.refusals.specs.declared.Refusal.the-variants.{Size, Length, Cell, Start, Number, NoZero}
+use Rattle.refusals.specs.declared.Tested.{Tested}
+use Rattle.grid.specs.Cells.{isBoardCell, isPositionCell, cellOf}
+use Rattle.grid.specs.Window.{neighbours}
+use Rattle.refusals.specs.Refusals.{Test, test, tested}
+
+-- 1, size: both sides from `least` (1, and 3 for patterns) to 32
+unfoldable pub sizeOk : ℕ → ℕ → ℕ → Bool
+sizeOk least rows columns = (leb least rows && leb rows 32) && (leb least columns && leb columns 32)
+
+-- 2, length: a cell or picture slice of n bytes is rows × columns long
+unfoldable pub lengthOk : ℕ → ℕ → ℕ → Bool
+lengthOk rows columns n = eqb n (rows * columns)
+
+-- 2, length: a deduction's list slice of n entries isn't shorter than that
+unfoldable pub roomOk : ℕ → ℕ → ℕ → Bool
+roomOk rows columns n = leb (rows * columns) n
+
+-- 3, cell
+unfoldable pub boardCellsOk : List ℕ → Bool
+boardCellsOk b = all isBoardCell b
+
+unfoldable pub positionCellsOk : List ℕ → Bool
+positionCellsOk p = all isPositionCell p
+
+-- the start of 255,255, which means the first 0 in reading order
+abbrev pub isOpenStart : ℕ → ℕ → Bool
+isOpenStart row column = eqb row 255 && eqb column 255
+
+-- 4, start: on the board, or 255,255
+unfoldable pub startOk : ℕ → ℕ → ℕ → ℕ → Bool
+startOk rows columns row column = (ltb row rows && ltb column columns) || isOpenStart row column
+
+-- how many neighbours of a cell are mines
+abbrev pub minesBeside : (ℕ → List ℕ) → List ℕ → ℕ → ℕ
+minesBeside near b c = count (λ d. eqb (cellOf b d) 255) (near c)
+
+-- 5, number: each safe cell's number is its count of neighbouring mines
+unfoldable pub numbersOk : (ℕ → List ℕ) → List ℕ → Bool
+numbersOk near b = every (length b) (λ c. eqb (cellOf b c) 255 || eqb (minesBeside near b c) (cellOf b c))
+
+-- 7, no zero: a start of 255,255 has a 0 to mean
+unfoldable pub zeroOk : ℕ → ℕ → List ℕ → Bool
+zeroOk row column b = not (isOpenStart row column) || any (λ v. eqb v 0) b
+
+-- the cell that a start means
+unfoldable pub startCell : ℕ → ℕ → ℕ → List ℕ → ℕ
+startCell columns row column b = cond (isOpenStart row column) (firstPlace (λ v. eqb v 0) b) (row * columns + column)
+
+-- a board call, lent a picture of n bytes
+abbrev pub boardTests : ℕ → ℕ → ℕ → ℕ → List ℕ → ℕ → List Test
+boardTests rows columns row column b n =
+    test (sizeOk 1 rows columns) Size
+    ∷ test (lengthOk rows columns (length b) && lengthOk rows columns n) Length
+    ∷ test (boardCellsOk b) Cell
+    ∷ test (startOk rows columns row column) Start
+    ∷ test (numbersOk (neighbours rows columns) b) Number
+    ∷ test (zeroOk row column b) NoZero
+    ∷ []
+
+unfoldable pub boardTested : ℕ → ℕ → ℕ → ℕ → List ℕ → ℕ → Tested
+boardTested rows columns row column b n = tested (boardTests rows columns row column b n)
+
+-- a call on a position, lent nothing else that 2 measures
+abbrev pub positionTests : ℕ → ℕ → List ℕ → List Test
+positionTests rows columns p =
+    test (sizeOk 1 rows columns) Size
+    ∷ test (lengthOk rows columns (length p)) Length
+    ∷ test (positionCellsOk p) Cell
+    ∷ []
+
+unfoldable pub positionTested : ℕ → ℕ → List ℕ → Tested
+positionTested rows columns p = tested (positionTests rows columns p)
+
+-- a deduction, lent lists of s and m entries
+abbrev pub deductionTests : ℕ → ℕ → List ℕ → ℕ → ℕ → List Test
+deductionTests rows columns p s m =
+    test (sizeOk 1 rows columns) Size
+    ∷ test (lengthOk rows columns (length p) && (roomOk rows columns s && roomOk rows columns m)) Length
+    ∷ test (positionCellsOk p) Cell
+    ∷ []
+
+unfoldable pub deductionTested : ℕ → ℕ → List ℕ → ℕ → ℕ → Tested
+deductionTested rows columns p s m = tested (deductionTests rows columns p s m)
+
+-- the pattern call
+abbrev pub patternTests : ℕ → ℕ → List ℕ → List Test
+patternTests rows columns b =
+    test (sizeOk 3 rows columns) Size
+    ∷ test (lengthOk rows columns (length b)) Length
+    ∷ test (boardCellsOk b) Cell
+    ∷ []
+
+unfoldable pub patternTested : ℕ → ℕ → List ℕ → Tested
+patternTested rows columns b = tested (patternTests rows columns b)
