@@ -1,0 +1,7 @@
+-- The laws of the block set: its slots, its ends, how it is filled and read, the turns of the code's loops, and what an equation says.
+pub mod Slots
+pub mod Ends
+pub mod Filling
+pub mod Reading
+pub mod Turns
+pub mod Saying

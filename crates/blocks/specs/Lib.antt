@@ -1,0 +1,3 @@
+-- Blocks of equations, and the block set that holds them.
+pub mod Blocks
+pub mod BlockSets
