@@ -2,6 +2,7 @@
 pub mod Slots
 pub mod Ends
 pub mod Filling
+pub mod Room
 pub mod Reading
 pub mod Turns
 pub mod Saying

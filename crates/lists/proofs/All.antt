@@ -3,14 +3,14 @@
 use mathlib.Core.Path.{_≡_, refl, _∙_}
 use mathlib.Core.Logic.{_⊎_, inl, inr}
 use mathlib.Core.Bool.{Bool, true, false, _&&_}
-use mathlib.Core.List.{List, [], _∷_, _++_}
-use Prim.Native.Nat.{ℕ, zero, suc, _<_}
+use mathlib.Core.List.{List, [], _∷_, _++_, reverse, reverse-cons}
+use Prim.Native.Nat.{ℕ, zero, suc, _-_, _<_}
 use native.Mathlib.Nat.{not-suc-le-zero, le-of-suc-le-suc}
 use lib.Dec.{eqb}
-use lib.ListN.{length, getD}
-use Rattle.lists.specs.Lists.{all, has}
+use lib.ListN.{length, getD, take, drop}
+use Rattle.lists.specs.Lists.{keep, all, rotated, has}
 use borrow.Author.Tests.{eqb-true}
-use Rattle.lists.proofs.Tests.{clash, and-left, and-right, or-cases}
+use Rattle.lists.proofs.Tests.{Decided, decided, clash, and-left, and-right, or-cases}
 use Rattle.lists.proofs.Members.{has-head, has-tail}
 
 module _ {A : Type 0} where
@@ -39,6 +39,39 @@ module _ {A : Type 0} where
 
   pub all-push : (f : A → Bool) (l : List A) (x : A) → all f l ≡ true → f x ≡ true → all f (l ++ (x ∷ [])) ≡ true
   all-push f l x h e = all-append f l (x ∷ []) ∙ rw (h, e)
+
+-- ---- a list that is joined, kept in part, reversed, cut, or turned by one place
+
+module _ {A : Type 0} (p : A → Bool) where
+  pub all-joined : (k l : List A) → all p k ≡ true → all p l ≡ true → all p (k ++ l) ≡ true
+  all-joined k l a b = all-append p k l ∙ rw (a, b)
+
+  pub all-keep : (f : A → Bool) (l : List A) → all p l ≡ true → all p (keep f l) ≡ true
+  all-keep f [] h = refl
+  all-keep f (x ∷ l) h = go (decided (f x)) (all-keep f l (all-tail p x l h))
+    where
+      go : Decided (f x) → all p (keep f l) ≡ true → all p (keep f (x ∷ l)) ≡ true
+      go (inl e) ih = rw (e, all-head p x l h) ih
+      go (inr e) ih = rw e ih
+
+  pub all-reverse : (l : List A) → all p l ≡ true → all p (reverse l) ≡ true
+  all-reverse [] h = refl
+  all-reverse (x ∷ l) h =
+      rw (reverse-cons x l) (all-joined (reverse l) (x ∷ []) (all-reverse l (all-tail p x l h)) (rw (all-head p x l h)))
+
+  pub all-take : (n : ℕ) (l : List A) → all p l ≡ true → all p (take n l) ≡ true
+  all-take zero l h = refl
+  all-take (suc n) [] h = refl
+  all-take (suc n) (x ∷ l) h = rw (all-head p x l h) (all-take n l (all-tail p x l h))
+
+  pub all-drop : (n : ℕ) (l : List A) → all p l ≡ true → all p (drop n l) ≡ true
+  all-drop zero l h = h
+  all-drop (suc n) [] h = refl
+  all-drop (suc n) (x ∷ l) h = all-drop n l (all-tail p x l h)
+
+  pub all-rotated : (l : List A) → all p l ≡ true → all p (rotated l) ≡ true
+  unfolding rotated
+  all-rotated l h = all-joined (drop (length l - 1) l) (take (length l - 1) l) (all-drop (length l - 1) l h) (all-take (length l - 1) l h)
 
 -- ---- lists of numbers
 

@@ -4,11 +4,11 @@ use mathlib.Core.Path.{_≡_, refl, _∙_}
 use mathlib.Core.Logic.{inl, inr}
 use mathlib.Core.Bool.{Bool, true, false, cond, _||_}
 use mathlib.Core.List.{List, [], _∷_}
-use Prim.Native.Nat.{ℕ, zero, suc, _<_}
+use Prim.Native.Nat.{ℕ, zero, suc, _+_, _≤_, _<_}
 use native.Mathlib.Nat.{not-suc-le-zero, le-of-suc-le-suc}
 use native.Mathlib.Omega.{arith}
 use lib.Dec.{ltb, leb·suc-suc}
-use lib.ListN.{length, getD}
+use lib.ListN.{length, getD, drop}
 use borrow.Author.Tests.{lt-ltb, ltb-true}
 use Rattle.lists.specs.Lists.{any, firstPlace}
 use Rattle.lists.proofs.Tests.{Decided, decided, clash}
@@ -40,3 +40,22 @@ first-before f (x ∷ l) d c w = go (decided (f x)) (first-before f l d) c w
     go (inl e) below k w = absurd (not-suc-le-zero (rw e at w))
     go (inr e) below zero w = e
     go (inr e) below (suc k) w = below k (le-of-suc-le-suc (rw e at w))
+
+-- ---- a search from the front
+
+module _ {A : Type 0} (f : A → Bool) where
+  pub first-place-within : (l : List A) → firstPlace f l ≤ length l
+  first-place-within [] = omega arith
+  first-place-within (x ∷ l) = go (f x) (first-place-within l)
+    where
+      go : (t : Bool) → firstPlace f l ≤ length l → cond t 0 (suc (firstPlace f l)) ≤ suc (length l)
+      go true ih = omega arith
+      go false ih = omega arith
+
+  -- a search that is at place k, where x stands: it stops there, or goes on
+  module _ (l r : List A) (k : ℕ) (x : A) (at : drop k l ≡ x ∷ r) where
+    pub first-place-here : f x ≡ true → k + firstPlace f (drop k l) ≡ k
+    first-place-here h = rw (at, h) (omega arith)
+
+    pub first-place-next : f x ≡ false → k + firstPlace f (drop k l) ≡ k + 1 + firstPlace f r
+    first-place-next h = rw (at, h) (omega arith)

@@ -2,17 +2,18 @@
 -- places, and a list stored behind the one that an array holds. A part is the list `f b` of some b. Assumes nothing.
 use mathlib.Core.Path.{_≡_, refl, sym, ap, _∙_}
 use mathlib.Core.Bool.{true}
-use mathlib.Core.List.{List, [], _∷_, _++_, map, append-nil, append-assoc, map-append}
-use Prim.Native.Nat.{ℕ, zero, suc, _+_, _*_, _≤_, _<_}
+use mathlib.Core.List.{List, [], _∷_, _++_, map, append-nil, append-assoc, map-append, map-map}
+use Prim.Native.Nat.{ℕ, zero, suc, _+_, _-_, _*_, _≤_, _<_}
 use native.Mathlib.Nat.{not-suc-le-zero, le-of-suc-le-suc, zero-mul, suc-mul}
 use native.Mathlib.Omega.{arith}
 use lib.Dec.{eqb}
 use lib.ListN.{length, getD, take, drop, length-append, length-drop}
 use lib.Seq.{sets, drop-cons, split-at, take-append-seam, drop-append-seam, take-append-le, drop-append-le, take-at, drop-at, drop-drop, getD-take, getD-drop, take-length}
 use borrow.Author.Tests.{eqb-true}
-use Rattle.lists.specs.Lists.{range, all, joined, pad}
+use Rattle.lists.specs.Lists.{range, all, has, joined, pad}
 use Rattle.lists.proofs.All.{all-head, all-tail}
 use Rattle.lists.proofs.Arrays.{pad-push}
+use Rattle.lists.proofs.Members.{has-head, has-tail, range-last}
 
 -- ---- ranges of places
 
@@ -29,6 +30,11 @@ module _ {A : Type 0} where
   pub map-range : (f g : ℕ → A) (a k : ℕ) → ((i : ℕ) → a ≤ i → i < a + k → f i ≡ g i) → map f (range a k) ≡ map g (range a k)
   map-range f g a zero h = refl
   map-range f g a (suc k) h = rw (h a (omega arith) (omega arith), map-range f g (suc a) k (λ i l u. h i (omega arith) (omega arith)))
+
+  -- and on the numbers of any list
+  pub map-ext : (f g : ℕ → A) (l : List ℕ) → ((c : ℕ) → has l c ≡ true → f c ≡ g c) → map f l ≡ map g l
+  map-ext f g [] h = refl
+  map-ext f g (x ∷ l) h = rw (h x (has-head x l), map-ext f g l (λ c e. h c (has-tail x l c e)))
 
   -- a slice of a list does not see what stands behind the list
   pub slice-append : (l r : List A) (a k : ℕ) → a + k ≤ length l → take k (drop a (l ++ r)) ≡ take k (drop a l)
@@ -119,3 +125,32 @@ pad-sets {A} n d l (x ∷ k) h =
     ∙ ap (λ (i : ℕ). sets (pad n d (l ++ (x ∷ []))) i k) s
     ∙ pad-sets n d (l ++ (x ∷ [])) k (omega arith)
     ∙ ap (pad n d) (append-assoc l (x ∷ []) k)
+
+-- ---- what a loop over places gives
+
+-- what the places from a up to i give, and place i
+pub joined-range-last : {A : Type 0} (f : ℕ → List A) (a i : ℕ) → a ≤ i
+    → joined (map f (range a (i + 1 - a))) ≡ joined (map f (range a (i - a))) ++ f i
+joined-range-last f a i h =
+    let m : i + 1 - a ≡ suc (i - a) = omega arith in
+    let e : a + (i - a) ≡ i = omega arith in
+    ap (λ (k : ℕ). joined (map f (range a k))) m
+    ∙ ap (λ (l : List ℕ). joined (map f l)) (range-last a (i - a) ∙ ap (λ (n : ℕ). range a (i - a) ++ (n ∷ [])) e)
+    ∙ joined-push f (range a (i - a)) i
+
+-- two functions one after the other
+pub joined-map-map : {A B : Type 0} (g : B → List A) (f : ℕ → B) (l : List ℕ) → joined (map (λ (i : ℕ). g (f i)) l) ≡ joined (map g (map f l))
+joined-map-map g f l = ap joined (sym (map-map g f l))
+
+-- what the elements of a list give, by their places, as a loop from 0 up to the length passes them
+pub joined-places : {A : Type 0} (g : ℕ → List A) (l : List ℕ) → joined (map (λ (i : ℕ). g (getD l i 0)) (range 0 (length l - 0))) ≡ joined (map g l)
+joined-places g l =
+    let e : length l - 0 ≡ length l = omega arith in
+    ap (λ (n : ℕ). joined (map (λ (i : ℕ). g (getD l i 0)) (range 0 n))) e
+    ∙ joined-map-map g (λ (i : ℕ). getD l i 0) (range 0 (length l))
+    ∙ ap (λ (k : List ℕ). joined (map g k)) (read-all l 0)
+
+-- lists of one element each
+pub joined-singles : (l : List ℕ) → joined (map (λ (x : ℕ). x ∷ []) l) ≡ l
+joined-singles [] = refl
+joined-singles (x ∷ l) = ap (λ (t : List ℕ). x ∷ t) (joined-singles l)

@@ -8,8 +8,13 @@ pub mod FirstPlaces
 pub mod Rising
 pub mod Rearranged
 pub mod Unions
+pub mod AddNew
+pub mod Kept
 pub mod Joined
 -- arrays with a count, and loops over a list
 pub mod Arrays
+pub mod Counted
 pub mod Collected
+pub mod Stores
+pub mod Rotated
 pub mod Loops

@@ -32,6 +32,15 @@ getD-has [] t d h = absurd (not-suc-le-zero h)
 getD-has (x ∷ l) zero d h = has-head x l
 getD-has (x ∷ l) (suc t) d h = has-tail x l (getD l t d) (getD-has l t d (le-of-suc-le-suc h))
 
+-- a number that a list has stands somewhere in it
+pub has-place : (l : List ℕ) (x : ℕ) → has l x ≡ true → (i : ℕ) × (i < length l) × (getD l i 0 ≡ x)
+has-place [] x h = clash false h refl
+has-place (y ∷ l) x h = go (or-cases (eqb x y) (has l x) h) (has-place l x)
+  where
+    go : (eqb x y ≡ true) ⊎ (has l x ≡ true) → (has l x ≡ true → (i : ℕ) × (i < length l) × (getD l i 0 ≡ x)) → (i : ℕ) × (i < suc (length l)) × (getD (y ∷ l) i 0 ≡ x)
+    go (inl e) ih = (0, omega arith, let w : x ≡ y = eqb-true x y e in omega arith)
+    go (inr e) ih = let (i, l, w) = ih e in (suc i, omega arith, w)
+
 pub has-append : (k l : List ℕ) (x : ℕ) → has (k ++ l) x ≡ (has k x || has l x)
 has-append [] l x = refl
 has-append (a ∷ k) l x = go (eqb x a) (has-append k l x)
@@ -129,3 +138,8 @@ range-none m e h = rw none
   where
     none : e - m ≡ 0
     none = omega arith
+
+-- a range with its last number apart
+pub range-last : (a k : ℕ) → range a (suc k) ≡ range a k ++ ((a + k) ∷ [])
+range-last a zero = let e : a ≡ a + 0 = omega arith in ap (λ (x : ℕ). x ∷ []) e
+range-last a (suc k) = let e : suc a + k ≡ a + suc k = omega arith in ap (λ (l : List ℕ). a ∷ l) (range-last (suc a) k ∙ rw e)

@@ -12,7 +12,7 @@ use lib.Dec.{eqb}
 use lib.ListN.{length, getD, length-append}
 use borrow.Author.Tests.{eqb-true, eq-eqb, ne-eqb}
 use Rattle.lists.specs.Lists.{any, all, empty, joined, has, nodup, meets, addNew}
-use Rattle.lists.proofs.Tests.{Decided, decided, clash, or-cases, or-left}
+use Rattle.lists.proofs.Tests.{Decided, decided, clash, same-test, or-cases, or-left}
 use Rattle.lists.proofs.Members.{has-tail, has-append, nodup-append}
 use Rattle.lists.proofs.Counts.{any-at, any-of}
 
@@ -108,6 +108,9 @@ meets-of k l c a b = any-of (has l) k c a b
 -- so it does not matter which is named first
 pub meets-turned : (k l : List ℕ) → meets k l ≡ true → meets l k ≡ true
 meets-turned k l h = let (c, a, b) = meets-at k l h in meets-of l k c b a
+
+pub meets-mutual : (k l : List ℕ) → meets k l ≡ meets l k
+meets-mutual k l = same-test (meets k l) (meets l k) (meets-turned k l) (meets-turned l k)
 
 -- ---- numbers added without repetition
 

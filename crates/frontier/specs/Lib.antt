@@ -1,0 +1,4 @@
+-- The frontier of a position, in the Rust's order; the call's answer; and what the functions that read it tell each other.
+pub mod Frontier
+pub mod Answer
+pub mod Reading

@@ -1,0 +1,2 @@
+-- The laws of texts of answers.
+pub mod Parts

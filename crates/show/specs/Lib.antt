@@ -1,0 +1,3 @@
+-- Answers as lines of text.
+pub mod Blocks
+pub mod Cells

@@ -1,0 +1,2 @@
+-- Text as a list of bytes.
+pub mod Text

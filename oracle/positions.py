@@ -1,0 +1,83 @@
+"""Random boards and positions for comparisons, from a seed: noise, true positions (cells shown at random, or flooded from a start), each also with slips,
+known mines and known safe cells among them, sizes from 1 x 1 to 32 x 32, and lines that a call must refuse."""
+import random
+
+
+def neighbours(rows, columns, c):
+    i, j = divmod(c, columns)
+    return [m * columns + n for m in range(max(0, i - 1), min(rows, i + 2)) for n in range(max(0, j - 1), min(columns, j + 2)) if m * columns + n != c]
+
+
+def size(r, largest):
+    """Mostly small boards, thin ones and the largest among them."""
+    k = r.random()
+    if k < 0.80:
+        return r.randint(1, 9), r.randint(1, 9)
+    if k < 0.90:
+        return r.randint(1, largest), r.randint(1, 3)
+    if k < 0.95:
+        return r.randint(1, 3), r.randint(1, largest)
+    return r.choice([(16, 16), (16, 30), (32, 32), (1, 32), (32, 1), (24, 20)]) if largest == 32 else (largest, largest)
+
+
+def board(r, rows, columns, density):
+    """A board with true numbers; 255 is a mine."""
+    n = rows * columns
+    mines = [r.random() < density for _ in range(n)]
+    return [255 if mines[c] else sum(mines[d] for d in neighbours(rows, columns, c)) for c in range(n)]
+
+
+def flooded(rows, columns, cells, position, start):
+    todo = [start]
+    while todo:
+        c = todo.pop()
+        if position[c] in (10, 12):
+            position[c] = cells[c]
+            if cells[c] == 0:
+                todo += neighbours(rows, columns, c)
+
+
+def position(r, largest=32):
+    """A position and the kind it is of."""
+    rows, columns = size(r, largest)
+    n = rows * columns
+    kind = r.choice(['noise', 'shown', 'flooded'])
+    if kind == 'noise':
+        closed = r.choice([0.2, 0.4, 0.6])
+        values = [10] * int(100 * closed) + [11] * 8 + [12] * 4 + r.choice([[0, 1, 1, 2, 2, 3], [1, 2], list(range(9))]) * 8
+        return kind, rows, columns, [r.choice(values) for _ in range(n)]
+    cells = board(r, rows, columns, r.choice([0.05, 0.1, 0.15, 0.2, 0.3, 0.5]))
+    p = [10] * n
+    if kind == 'shown':
+        part = r.random()
+        p = [v if v != 255 and r.random() < part else 10 for v in cells]
+    else:
+        safe = [c for c in range(n) if cells[c] != 255]
+        for _ in range(r.randint(1, 4)):
+            if safe:
+                flooded(rows, columns, cells, p, r.choice(safe))
+    if r.random() < 0.5:
+        known = r.random() * 0.5
+        p = [(11 if cells[c] == 255 else 12) if v == 10 and r.random() < known and (cells[c] == 255 or r.random() < 0.2) else v for c, v in enumerate(p)]
+    if r.random() < 0.3:
+        kind += ' with slips'
+        for _ in range(r.randint(1, 3)):
+            p[r.randrange(n)] = r.choice([0, 1, 2, 3, 8, 10, 11, 12])
+    return kind, rows, columns, p
+
+
+def damaged(r, largest=32):
+    """A line of numbers that a position call must refuse, by size, length or cell."""
+    _, rows, columns, p = position(r, min(largest, 8))
+    how = r.choice(['size', 'length', 'cell'])
+    if how == 'size':
+        rows, columns = r.choice([(0, columns), (rows, 0), (33, columns), (rows, 33), (255, 255), (1000, 1)])
+    elif how == 'length':
+        p = p[:-1] if r.random() < 0.5 else p + [10]
+    else:
+        p[r.randrange(len(p))] = r.choice([9, 13, 14, 100, 254, 255, 256, 1000])
+    return 'refused', rows, columns, p
+
+
+def line(rows, columns, p):
+    return ' '.join(map(str, [rows, columns] + p))
