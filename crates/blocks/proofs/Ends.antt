@@ -14,7 +14,7 @@ use Rattle.blocks.specs.BlockSets.{endsFrom, beginAt, partAt}
 
 -- ---- the ends in an array with a count
 
-begin-padded : (n : ℕ) (ends : List ℕ) (k : ℕ) → beginAt (pad n 0 ends) k ≡ beginAt ends k
+pub begin-padded : (n : ℕ) (ends : List ℕ) (k : ℕ) → beginAt (pad n 0 ends) k ≡ beginAt ends k
 begin-padded n ends zero = refl
 begin-padded n ends (suc k) = pad-read n 0 ends k
 
@@ -46,12 +46,12 @@ module _ {A B : Type 0} (f : B → List A) where
       omega (arith, end-from (n + length (f b)) bs k (le-of-suc-le-suc h), length-append (f b) (joined (map f (take (suc k) bs))))
 
   -- a part begins behind the parts before it
-  begin-of : (bs : List B) (k : ℕ) → k < length bs → beginAt (endsOf bs) k ≡ length (joined (map f (take k bs)))
+  pub begin-of : (bs : List B) (k : ℕ) → k < length bs → beginAt (endsOf bs) k ≡ length (joined (map f (take k bs)))
   begin-of bs zero h = refl
   begin-of bs (suc k) h = end-from 0 bs k (omega arith) ∙ zero-add (length (joined (map f (take (suc k) bs))))
 
   module _ (bs : List B) (k : ℕ) (d : B) (h : k < length bs) where
-    end-of : getD (endsOf bs) k 0 ≡ length (joined (map f (take k bs))) + length (f (getD bs k d))
+    pub end-of : getD (endsOf bs) k 0 ≡ length (joined (map f (take k bs))) + length (f (getD bs k d))
     end-of =
         end-from 0 bs k h
         ∙ zero-add (length (joined (map f (take (suc k) bs))))

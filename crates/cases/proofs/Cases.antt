@@ -1,14 +1,15 @@
 -- Every line of the table holds, by computing the definitions that the contracts cite. Assumes nothing.
 use mathlib.Core.Path.{_≡_, refl}
 use mathlib.Core.Bool.{true}
-use Rattle.lists.specs.Lists.{all}
+use Rattle.lists.specs.Lists.{all, rotated}
 use Rattle.grid.specs.Window.{around, neighbours}
 use Rattle.refusals.specs.Tests.{sizeOk, lengthOk, boardCellsOk, positionCellsOk, startOk, numbersOk, zeroOk, boardTested, positionTested}
+use Rattle.frontier.specs.Frontier.{sources, blockOf, frontier, insideCells, knownMines}
 use Rattle.fitting.specs.Layouts.{fits, freeInEvery}
 use Rattle.fitting.specs.Solver.{ask}
 use Rattle.fitting.specs.Passes.{allOpen}
 use Rattle.cases.specs.Table.{endsWith, holds, table}
 
 pub all-cases : all holds table ≡ true
-unfolding table holds endsWith around neighbours sizeOk lengthOk boardCellsOk positionCellsOk startOk numbersOk zeroOk boardTested positionTested fits freeInEvery ask allOpen
+unfolding table holds endsWith around neighbours sizeOk lengthOk boardCellsOk positionCellsOk startOk numbersOk zeroOk boardTested positionTested fits freeInEvery ask allOpen rotated sources blockOf frontier insideCells knownMines
 all-cases = refl

@@ -2,13 +2,15 @@
 -- after row. The lines about a rule join as the rules arrive. Assumes nothing.
 use mathlib.Core.Bool.{Bool, true, false, cond, _&&_, Bool·beq}
 use mathlib.Core.List.{List, [], _∷_, _++_}
-use Prim.Native.Nat.{ℕ, _*_}
+use Prim.Native.Nat.{ℕ, _+_, _-_, _*_}
 use lib.Dec.{eqb}
 use lib.ListN.{length, replicate}
 use Rattle.lists.specs.Lists.{range, every, same}
 use Rattle.grid.specs.Window.{neighbours}
 use Rattle.refusals.specs.Refusals.{testedNumber}
 use Rattle.refusals.specs.Tests.{boardTested, positionTested}
+use Rattle.blocks.specs.Blocks.{BlockEquation, Block}
+use Rattle.frontier.specs.Frontier.{frontier, insideCells, knownMines}
 use Rattle.fitting.specs.Solver.{ask, solved}
 use Rattle.fitting.specs.Demand.{opened}
 use Rattle.fitting.specs.Passes.{allOpen}
@@ -19,6 +21,8 @@ pub data Case : Type 0 where
   board-tested : (rows columns row column : ℕ) → List ℕ → ℕ → Case
   -- a position of that size: the number of the refusal, or 0
   position-tested : (rows columns : ℕ) → List ℕ → ℕ → Case
+  -- the frontier of a position: its blocks, its inside cells and its known mines
+  frontier-read : (rows columns : ℕ) → List ℕ → List Block → (inside known : ℕ) → Case
   -- the solver of demand 3 on a board, from the cell s: its position when it is done, its open cells, and whether they are all the safe ones
   solver : (rows columns s : ℕ) → List ℕ → List ℕ → ℕ → Bool → Case
 
@@ -28,16 +32,54 @@ endsWith rows columns s b p =
     same (solved (neighbours rows columns) b s (range 0 (length b) ++ range 0 (length b))) p
     && every (length b) (λ c. same (ask (neighbours rows columns) b p c) p)
 
+-- two lists are equal, element by element by a test
+abbrev sameBy : {A : Type 0} → (A → A → Bool) → List A → List A → Bool
+sameBy eq [] [] = true
+sameBy eq [] (y ∷ k) = false
+sameBy eq (x ∷ l) [] = false
+sameBy eq (x ∷ l) (y ∷ k) = eq x y && sameBy eq l k
+
+abbrev sameEquation : BlockEquation → BlockEquation → Bool
+sameEquation e f = eqb (e .rest) (f .rest) && same (e .cells) (f .cells)
+
+abbrev sameBlock : Block → Block → Bool
+sameBlock a b = same (a .cells) (b .cells) && sameBy sameEquation (a .equations) (b .equations)
+
+-- a block, and an equation of a block with a remainder of n, or of n less than 0
+abbrev block : List ℕ → List BlockEquation → Block
+block cells equations = record { cells = cells; equations = equations }
+
+abbrev equation : ℕ → List ℕ → BlockEquation
+equation n cells = record { cells = cells; rest = 8 + n }
+
+abbrev negative : ℕ → List ℕ → BlockEquation
+negative n cells = record { cells = cells; rest = 8 - n }
+
 -- the line holds
 unfoldable pub holds : Case → Bool
 holds (board-tested rows columns row column b n) = eqb (testedNumber (boardTested rows columns row column b (rows * columns))) n
 holds (position-tested rows columns p n) = eqb (testedNumber (positionTested rows columns p)) n
+holds (frontier-read rows columns p bs inside known) =
+    sameBy sameBlock (frontier (neighbours rows columns) p) bs
+    && (eqb (insideCells (neighbours rows columns) p) inside && eqb (knownMines p) known)
 holds (solver rows columns s b p n all) = endsWith rows columns s b p && (eqb (opened p) n && Bool·beq (allOpen b p) all)
 
 unfoldable pub table : List Case
 table =
+    -- 1. position `1 10 10`: inside cells 1
+    frontier-read 1 3 (1 ∷ 10 ∷ 10 ∷ []) (block (1 ∷ []) (equation 1 (1 ∷ []) ∷ []) ∷ []) 1 0
+    -- 3. `11 0 10`: remainder -1
+    ∷ frontier-read 1 3 (11 ∷ 0 ∷ 10 ∷ []) (block (2 ∷ []) (negative 1 (2 ∷ []) ∷ []) ∷ []) 0 1
+    -- 4. `10 1 10`: one equation over both cells
+    ∷ frontier-read 1 3 (10 ∷ 1 ∷ 10 ∷ []) (block (0 ∷ 2 ∷ []) (equation 1 (0 ∷ 2 ∷ []) ∷ []) ∷ []) 0 0
+    -- 5. `10 1 10 1 10`: two equations that share a cell
+    ∷ frontier-read 1 5 (10 ∷ 1 ∷ 10 ∷ 1 ∷ 10 ∷ [])
+    (block (0 ∷ 2 ∷ 4 ∷ []) (equation 1 (0 ∷ 2 ∷ []) ∷ equation 1 (2 ∷ 4 ∷ []) ∷ []) ∷ []) 0 0
+    -- 6. `10 10 10 / 1 1 1`: three equations, the others found from the last to the second
+    ∷ frontier-read 2 3 (10 ∷ 10 ∷ 10 ∷ 1 ∷ 1 ∷ 1 ∷ [])
+    (block (0 ∷ 1 ∷ 2 ∷ []) (equation 1 (0 ∷ 1 ∷ []) ∷ equation 1 (1 ∷ 2 ∷ []) ∷ equation 1 (0 ∷ 1 ∷ 2 ∷ []) ∷ []) ∷ []) 0 0
     -- 8. board `0`, start 0,0: 1 opened, all
-    solver 1 1 0 (0 ∷ []) (0 ∷ []) 1 true
+    ∷ solver 1 1 0 (0 ∷ []) (0 ∷ []) 1 true
     -- 9. 3 × 3, all mines but 0,0, start 0,0: 1 opened, all
     ∷ solver 3 3 0 (3 ∷ replicate 8 255) (3 ∷ replicate 8 10) 1 true
     -- 10. `1 255 1 / 1 1 1`, start 1,0: 1 opened, not all

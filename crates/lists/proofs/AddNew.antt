@@ -7,8 +7,9 @@ use mathlib.Core.Bool.{true, false, cond}
 use mathlib.Core.List.{List, [], _∷_, _++_}
 use native.Mathlib.Omega.{arith}
 use lib.ListN.{length, length-append}
-use Rattle.lists.specs.Lists.{has, addNew}
+use Rattle.lists.specs.Lists.{all, has, addNew}
 use Rattle.lists.proofs.Tests.{Decided, decided}
+use Rattle.lists.proofs.All.{all-head, all-tail}
 
 -- a number that is there, and one that is not
 pub add-new-there : (l : List ℕ) (x : ℕ) (k : List ℕ) → has l x ≡ true → addNew l (x ∷ k) ≡ addNew l k
@@ -30,3 +31,8 @@ add-new-longer l (x ∷ k) = go (decided (has l x)) (add-new-longer l k) (add-ne
     go : Decided (has l x) → length l ≤ length (addNew l k) → length (l ++ (x ∷ [])) ≤ length (addNew (l ++ (x ∷ [])) k) → length l ≤ length (addNew l (x ∷ k))
     go (inl h) same more = rw h same
     go (inr h) same more = rw h (omega (arith, length-append l (x ∷ [])))
+
+-- nothing is added where all is there
+pub add-new-none : (l k : List ℕ) → all (has l) k ≡ true → addNew l k ≡ l
+add-new-none l [] h = refl
+add-new-none l (x ∷ k) h = rw (all-head (has l) x k h) (add-new-none l k (all-tail (has l) x k h))

@@ -1,23 +1,60 @@
--- What is kept of a list: of two lists joined, of a range with one number more, and under two tests that agree on the list's numbers. Something is kept
--- where some number passes, and nothing where none does. Assumes nothing.
+-- What is kept of a list: of two lists joined, of a list mapped, by two tests one after the other, of a range with one number more, and under two tests
+-- that agree on the list's numbers. Something is kept where some number passes, and nothing where none does. Assumes nothing.
 use mathlib.Core.Path.{_≡_, refl, ap, _∙_}
 use mathlib.Core.Logic.{inl, inr}
-use mathlib.Core.Bool.{Bool, true, false, not}
-use mathlib.Core.List.{List, [], _∷_, _++_, append-nil}
+use mathlib.Core.Bool.{Bool, true, false, not, _&&_}
+use mathlib.Core.List.{List, [], _∷_, _++_, map, append-nil}
 use Prim.Native.Nat.{ℕ, zero, suc, _+_}
 use native.Mathlib.Numerals.{add-one}
 use native.Mathlib.Omega.{arith}
 use Rattle.lists.specs.Lists.{range, keep, any, empty, has}
-use Rattle.lists.proofs.Tests.{Decided, decided}
+use Rattle.lists.proofs.Tests.{Decided, decided, clash}
 use Rattle.lists.proofs.Members.{has-head, has-tail, range-last}
 
-pub keep-append : (f : ℕ → Bool) (k l : List ℕ) → keep f (k ++ l) ≡ keep f k ++ keep f l
-keep-append f [] l = refl
-keep-append f (x ∷ k) l = go (decided (f x)) (keep-append f k l)
-  where
-    go : Decided (f x) → keep f (k ++ l) ≡ keep f k ++ keep f l → keep f (x ∷ k ++ l) ≡ keep f (x ∷ k) ++ keep f l
-    go (inl e) ih = rw (e, ih)
-    go (inr e) ih = rw (e, ih)
+module _ {A : Type 0} where
+  pub keep-append : (f : A → Bool) (k l : List A) → keep f (k ++ l) ≡ keep f k ++ keep f l
+  keep-append f [] l = refl
+  keep-append f (x ∷ k) l = go (decided (f x)) (keep-append f k l)
+    where
+      go : Decided (f x) → keep f (k ++ l) ≡ keep f k ++ keep f l → keep f (x ∷ k ++ l) ≡ keep f (x ∷ k) ++ keep f l
+      go (inl e) ih = rw (e, ih)
+      go (inr e) ih = rw (e, ih)
+
+  pub keep-all : (f : A → Bool) (l : List A) → ((x : A) → f x ≡ true) → keep f l ≡ l
+  keep-all f [] h = refl
+  keep-all f (x ∷ l) h = rw (h x, keep-all f l h)
+
+  -- two tests, one after the other
+  pub keep-both : (f g : A → Bool) (l : List A) → keep f (keep g l) ≡ keep (λ x. g x && f x) l
+  keep-both f g [] = refl
+  keep-both f g (x ∷ l) = go (decided (g x)) (decided (f x)) (keep-both f g l)
+    where
+      go : Decided (g x) → Decided (f x) → keep f (keep g l) ≡ keep (λ y. g y && f y) l → keep f (keep g (x ∷ l)) ≡ keep (λ y. g y && f y) (x ∷ l)
+      go (inl a) (inl b) ih = rw (a, b, ih)
+      go (inl a) (inr b) ih = rw (a, b, ih)
+      go (inr a) b ih = rw (a, ih)
+
+  -- what passes the stricter of two tests is kept by both
+  pub keep-stricter : (f g : A → Bool) (l : List A) → ((x : A) → f x ≡ true → g x ≡ true) → keep f (keep g l) ≡ keep f l
+  keep-stricter f g [] h = refl
+  keep-stricter f g (x ∷ l) h = go (decided (g x)) (decided (f x)) (keep-stricter f g l h)
+    where
+      go : Decided (g x) → Decided (f x) → keep f (keep g l) ≡ keep f l → keep f (keep g (x ∷ l)) ≡ keep f (x ∷ l)
+      go (inl a) (inl b) ih = rw (a, b, ih)
+      go (inl a) (inr b) ih = rw (a, b, ih)
+      go (inr a) (inl b) ih = clash (g x) (h x b) a
+      go (inr a) (inr b) ih = rw (a, b, ih)
+
+module _ {A B : Type 0} (g : A → B) where
+  pub keep-map : (f : B → Bool) (l : List A) → keep f (map g l) ≡ map g (keep (λ x. f (g x)) l)
+  keep-map f [] = refl
+  keep-map f (x ∷ l) = go (decided (f (g x))) (keep-map f l)
+    where
+      go : Decided (f (g x)) → keep f (map g l) ≡ map g (keep (λ y. f (g y)) l) → keep f (map g (x ∷ l)) ≡ map g (keep (λ y. f (g y)) (x ∷ l))
+      go (inl e) ih = rw (e, ih)
+      go (inr e) ih = rw (e, ih)
+
+-- ---- lists of numbers
 
 -- some number passes, or nothing is kept
 pub some-kept : (f : ℕ → Bool) (l : List ℕ) → not (empty (keep f l)) ≡ any f l

@@ -10,6 +10,10 @@ pub mod Rearranged
 pub mod Unions
 pub mod AddNew
 pub mod Kept
+pub mod Occurrences
+pub mod CountsAlike
+pub mod Backwards
+pub mod Sharing
 pub mod Joined
 -- arrays with a count, and loops over a list
 pub mod Arrays
@@ -17,4 +21,5 @@ pub mod Counted
 pub mod Collected
 pub mod Stores
 pub mod Rotated
+pub mod Storing
 pub mod Loops
