@@ -1,5 +1,5 @@
 -- `blockSources` parts the sources of a position: each source stands in one part, once; two sources that share a closed cell stand in the same part;
--- and within a part each source is joined to the first, so no part is empty and none could be parted further. Rests on Growth. Assumes nothing.
+-- and within a part each source is joined to the first, so no part is empty and none could be parted further. Rests on GrownBlocks. Assumes nothing.
 use mathlib.Core.Path.{_≡_, refl, sym, ap, _∙_}
 use mathlib.Core.Logic.{_⊎_, inl, inr}
 use mathlib.Core.Bool.{true, false, not}

@@ -1,6 +1,6 @@
 -- `read_blocks` meets its contract. The loop's invariant: the arrays hold the blocks done, which with the blocks of the first n of `left` are the whole
 -- frontier, and `places` has no cell for the next block yet (`BlocksSoFar`). The measure is n, the sources left: a block has at least one. A turn is one
--- block more, for which there is room, since what is written is a beginning of the frontier. Assumes nothing.
+-- block more, for which there is room, since what is written is a beginning of the frontier. Rests on the laws of `BlocksSoFar`. Assumes nothing.
 use mathlib.Core.Path.{_≡_, refl}
 use native.Mathlib.Omega.{arith}
 use lib.ListN.{length}
