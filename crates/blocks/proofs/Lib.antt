@@ -1,4 +1,4 @@
--- The laws of the block set: its slots, its ends, how it is filled and read, the turns of the code's loops, and what an equation says.
+-- The laws of the block set: its slots, its ends, how it is filled, the room in it, how it is read, the turns of the code's loops, and what an equation says.
 pub mod Slots
 pub mod Ends
 pub mod Filling

@@ -1,0 +1,3 @@
+-- What each call answers to a line of numbers, as a line of text.
+pub mod Lines
+pub mod Frontier

@@ -1,0 +1,66 @@
+-- A line of decimal numbers as a position or a board: rows, columns, then the cells row by row. A line with anything else in it, or with fewer than two
+-- numbers, is unreadable. Assumes nothing.
+use mathlib.Core.Bool.{Bool, true, false, cond}
+use mathlib.Core.List.{List, [], _∷_, _++_, map}
+use Prim.Native.Nat.{ℕ, zero, suc}
+use lib.Dec.{leb}
+use lib.ListN.{length, take}
+use Rattle.lists.specs.Lists.{pad}
+use Rattle.text.specs.declared.Word.{Word}
+use Rattle.text.specs.declared.Word.the-variants.{Number, End, Other}
+use Rattle.text.specs.Text.{wordAt}
+use Rattle.answers.specs.declared.lines.Line.{Line}
+
+-- the numbers of a line, or that it is unreadable
+pub record Numbers : Type 0 where
+  pub readable : Bool
+  pub list : List ℕ
+
+abbrev pub unreadable : Numbers
+unreadable = record { readable = false; list = [] }
+
+-- a number in front of those that follow
+abbrev pub numberBefore : ℕ → Numbers → Numbers
+numberBefore n ns = cond (ns .readable) (record { readable = true; list = n ∷ ns .list }) unreadable
+
+-- what a word makes of the numbers behind it, which are read from the place after it
+abbrev pub afterWord : (ℕ → Numbers) → Word → Numbers
+afterWord behind (Number n next) = numberBefore n (behind next)
+afterWord behind End = record { readable = true; list = [] }
+afterWord behind Other = unreadable
+
+-- the numbers of at most k - 1 words from a place on; a line with more is unreadable
+abbrev pub numbersFrom : ℕ → List ℕ → ℕ → Numbers
+numbersFrom zero line at = unreadable
+numbersFrom (suc k) line at = afterWord (numbersFrom k line) (wordAt line at)
+
+-- the numbers from a place on; a line has at most as many words as bytes
+unfoldable pub numbersAt : List ℕ → ℕ → Numbers
+numbersAt line at = numbersFrom (suc (length line)) line at
+
+-- a number as a cell's byte; one that is none becomes 254, which no cell is
+abbrev pub cellByte : ℕ → ℕ
+cellByte n = cond (leb n 255) n 254
+
+abbrev pub noLine : Line
+noLine = record { readable = false; rows = 0; columns = 0; cells = pad 1025 0 []; len = 0 }
+
+-- rows, columns and cells
+abbrev pub lineWith : ℕ → ℕ → List ℕ → Line
+lineWith rows columns cells = record { readable = true; rows = rows; columns = columns; cells = pad 1025 0 cells; len = length cells }
+
+-- the cells that some numbers are, behind those that were read before: at most 1025, one more than any board has
+abbrev pub withCells : ℕ → ℕ → List ℕ → Numbers → Line
+withCells rows columns before ns = cond (ns .readable) (lineWith rows columns (take 1025 (before ++ map cellByte (ns .list)))) noLine
+
+abbrev pub fromNumbers : List ℕ → Line
+fromNumbers [] = noLine
+fromNumbers (r ∷ []) = noLine
+fromNumbers (r ∷ c ∷ vs) = lineWith r c (take 1025 (map cellByte vs))
+
+abbrev pub lineFrom : Numbers → Line
+lineFrom ns = cond (ns .readable) (fromNumbers (ns .list)) noLine
+
+-- a line read
+unfoldable pub lineOf : List ℕ → Line
+lineOf line = lineFrom (numbersAt line 0)

@@ -1,0 +1,176 @@
+// replay: runs the stored answers of the Rust in data/, one file for each call, in which a line that is asked and the line that the Rust answered
+// follow each other. It names each case whose answer differs, and says how many agree.
+use answers::frontier_line;
+use check::same;
+ghost use mathlib.Core.Path.{_≡_};
+ghost use Prim.Native.Nat.{_<_};
+ghost use lib.ListN.{length};
+
+// Where a file stands: whether the line that comes is an answer, how long the line asked and the line that comes are so far, and the cases so far.
+struct State {
+    answering: bool,
+    asked: usize,
+    len: usize,
+    agree: usize,
+    differ: usize,
+}
+
+// Room for a line that is asked.
+fn line_buffer() -> [u8; 16384]
+    ensures { λ r. ⌜ 16384 ≡ length r ⌝ }
+{
+    [0; 16384]
+}
+
+// Does our answer to the line asked, of the length that is given, equal the stored one? Not where one of the lines did not fit its buffer.
+fn agrees(asked: &[u8], asked_len: usize, answer: &[u8], len: usize, out: &mut [u8]) -> bool {
+    if asked.len() < asked_len {
+        return false;
+    }
+    if answer.len() < len {
+        return false;
+    }
+    let n = frontier_line(&asked[..asked_len], out);
+    same(&out[..n], &answer[..len])
+}
+
+// Names a case that differs by its line, as far as that fits its buffer.
+fn name_case(asked: &[u8], asked_len: usize) {
+    io::write_all(1, b"differs: ");
+    if asked_len < asked.len() {
+        io::write_all(1, &asked[..asked_len]);
+    } else {
+        io::write_all(1, asked);
+    }
+    io::write_all(1, b"\n");
+}
+
+// A count of cases and one more, up to a count that no file has.
+fn one_more(cases: usize) -> usize {
+    if cases < 0xffff_ffff {
+        return cases + 1;
+    }
+    cases
+}
+
+// The case is judged; one that differs is named.
+fn judge(s: State, asked: &[u8], answer: &[u8], out: &mut [u8]) -> State {
+    let asked_len = s.asked;
+    if agrees(asked, asked_len, answer, s.len, out) {
+        return State {
+            answering: false,
+            asked: 0,
+            len: 0,
+            agree: one_more(s.agree),
+            differ: s.differ,
+        };
+    }
+    name_case(asked, asked_len);
+    State {
+        answering: false,
+        asked: 0,
+        len: 0,
+        agree: s.agree,
+        differ: one_more(s.differ),
+    }
+}
+
+// Puts a byte behind a line's first `len`, and returns how many there are; in a line that is full only their number tells that there are more.
+fn put(line: &mut [u8], len: usize, byte: u8) -> usize {
+    if len < line.len() {
+        line[len] = byte;
+        return len + 1;
+    }
+    line.len() + 1
+}
+
+// Takes in one byte.
+fn take(s: State, byte: u8, asked: &mut [u8], answer: &mut [u8], out: &mut [u8]) -> State {
+    if byte == b'\n' {
+        if s.answering {
+            return judge(s, asked, answer, out);
+        }
+        return State {
+            answering: true,
+            asked: s.len,
+            len: 0,
+            agree: s.agree,
+            differ: s.differ,
+        };
+    }
+    let mut next = s;
+    let len = s.len;
+    if s.answering {
+        next.len = put(answer, len, byte);
+        return next;
+    }
+    next.len = put(asked, len, byte);
+    next
+}
+
+// Takes in the bytes of a chunk.
+fn take_all(
+    before: State,
+    chunk: &[u8],
+    asked: &mut [u8],
+    answer: &mut [u8],
+    out: &mut [u8],
+) -> State {
+    let mut s = before;
+    for i in 0..chunk.len() {
+        s = take(s, chunk[i], asked, answer, out);
+    }
+    s
+}
+
+// How many chunks may still be read: none behind one that is not full, which the input's end makes.
+fn chunks_left(left: usize, len: usize, full: usize) -> usize
+    requires { ⌜ 0 < left ⌝ }
+    ensures { λ r. ⌜ r < left ⌝ }
+{
+    if len < full {
+        return 0;
+    }
+    left - 1
+}
+
+// Prints how many cases agree and differ.
+fn print_counts(agree: usize, differ: usize) {
+    io::print_decimal(1, agree as u64);
+    io::write_all(1, b" agree, ");
+    io::print_decimal(1, differ as u64);
+    io::write_all(1, b" differ\n");
+}
+
+// Runs the cases of an open file and says how many agree.
+fn run(fd: i32, chunk: &mut [u8], asked: &mut [u8], answer: &mut [u8], out: &mut [u8]) {
+    let mut s = State {
+        answering: false,
+        asked: 0,
+        len: 0,
+        agree: 0,
+        differ: 0,
+    };
+    let mut left: usize = 65536;
+    while 0 < left {
+        let n = io::read_full(fd, chunk);
+        s = take_all(s, &chunk[..n], asked, answer, out);
+        left = chunks_left(left, n, chunk.len());
+    }
+    print_counts(s.agree, s.differ);
+}
+
+fn main() {
+    let mut chunk = io::large_buffer();
+    let mut asked = line_buffer();
+    let mut answer = io::large_buffer();
+    let mut out = io::large_buffer();
+    let fd = os::open_read(b"frontier");
+    if fd < 0 {
+        os::fail(b"frontier");
+        return;
+    }
+    io::write_all(1, b"frontier: ");
+    run(fd, &mut chunk, &mut asked, &mut answer, &mut out);
+    libc::close(fd);
+}
