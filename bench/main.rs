@@ -1,55 +1,8 @@
 // Times our calls beside the Rust's functions, on the same positions in one process. Positions come from played games: random boards, opened by the
 // Rust's own loop, each position kept as it is before a rule reads it. Every answer that can be compared cheaply is compared on the way.
-use std::cmp::{max, min};
-use std::collections::VecDeque;
 use std::time::Instant;
 
-mod safe_board {
-    pub trait BoardSize {
-        fn get_row(&self) -> usize;
-        fn get_column(&self) -> usize;
-    }
-    impl BoardSize for Vec<Vec<i32>> {
-        fn get_row(&self) -> usize {
-            self.len()
-        }
-        fn get_column(&self) -> usize {
-            self[0].len()
-        }
-    }
-}
-const ENUM_LIMIT: usize = 99999;
-
-trait Product: Iterator + Sized
-where
-    Self::Item: Iterator + Clone,
-    <Self::Item as Iterator>::Item: Clone,
-{
-    fn multi_cartesian_product(self) -> std::vec::IntoIter<Vec<<Self::Item as Iterator>::Item>> {
-        let mut rows = vec![vec![]];
-        for factor in self {
-            let mut next = vec![];
-            for row in &rows {
-                for value in factor.clone() {
-                    let mut longer = row.clone();
-                    longer.push(value);
-                    next.push(longer);
-                }
-            }
-            rows = next;
-        }
-        rows.into_iter()
-    }
-}
-impl<I: Iterator> Product for I
-where
-    I::Item: Iterator + Clone,
-    <I::Item as Iterator>::Item: Clone,
-{
-}
-
-include!(concat!(env!("ORACLE_BUILD"), "/rust_utils.rs"));
-include!(concat!(env!("ORACLE_BUILD"), "/rust_algorithms.rs"));
+include!("../oracle/shim.rs");
 
 type Grid = Vec<Vec<i32>>;
 

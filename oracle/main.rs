@@ -6,57 +6,9 @@
 //   oracle pattern                                              lines `R C v v v ...`, a board, 255 a mine
 //   oracle is_solvable                                          lines `R C r c v v v ...`, a board and its start
 //   oracle judge [--pictures]                                   records of document 01 from standard input
-use std::cmp::{max, min};
-use std::collections::VecDeque;
 use std::io::{BufRead, Read, Write};
 
-mod safe_board {
-    pub trait BoardSize {
-        fn get_row(&self) -> usize;
-        fn get_column(&self) -> usize;
-    }
-    impl BoardSize for Vec<Vec<i32>> {
-        fn get_row(&self) -> usize {
-            self.len()
-        }
-        fn get_column(&self) -> usize {
-            self[0].len()
-        }
-    }
-}
-const ENUM_LIMIT: usize = 99999;
-
-/// The rows of itertools' product in its order, the last factor fastest; one empty row for no factors.
-trait Product: Iterator + Sized
-where
-    Self::Item: Iterator + Clone,
-    <Self::Item as Iterator>::Item: Clone,
-{
-    fn multi_cartesian_product(self) -> std::vec::IntoIter<Vec<<Self::Item as Iterator>::Item>> {
-        let mut rows = vec![vec![]];
-        for factor in self {
-            let mut next = vec![];
-            for row in &rows {
-                for value in factor.clone() {
-                    let mut longer = row.clone();
-                    longer.push(value);
-                    next.push(longer);
-                }
-            }
-            rows = next;
-        }
-        rows.into_iter()
-    }
-}
-impl<I: Iterator> Product for I
-where
-    I::Item: Iterator + Clone,
-    <I::Item as Iterator>::Item: Clone,
-{
-}
-
-include!(concat!(env!("ORACLE_BUILD"), "/rust_utils.rs"));
-include!(concat!(env!("ORACLE_BUILD"), "/rust_algorithms.rs"));
+include!("shim.rs");
 
 type Grid = Vec<Vec<i32>>;
 type Cell = (usize, usize);
