@@ -1,0 +1,147 @@
+-- The two rules at a position. A layout that fits solves the equations of the frontier, so what the rules list is the same in every layout that fits, and
+-- where some layout fits they meet no contradiction. Listed cells are cells of the frontier, so closed, and none stands twice in a list. So both are
+-- sound rules for the verdict on every board. `near` lists at most eight neighbours of a cell, none twice. Rests on DirectLaws and MinusLaws. Assumes nothing.
+use mathlib.Core.Path.{_≡_}
+use mathlib.Core.Logic.{inl, inr}
+use mathlib.Core.Bool.{Bool, true, false}
+use mathlib.Core.List.{List, _++_, List·Memᴰ}
+use Prim.Native.Nat.{ℕ, _+_, _≤_}
+use native.Mathlib.Omega.{arith}
+use lib.ListN.{length, length-append}
+use borrow.Author.Tests.{eqb-true, ne-eqb}
+use Rattle.lists.specs.Lists.{keep, count, has, nodup}
+use Rattle.lists.proofs.Tests.{Decided, decided, clash}
+use Rattle.lists.proofs.Counts.{length-keep}
+use Rattle.lists.proofs.Rearranged.{rearranged-length}
+use Rattle.rules.proofs.Among.{Among, among-length, among-has, among-nodup, among-left, among-right, keep-both-among}
+use Rattle.grid.specs.Cells.{shows}
+use Rattle.fitting.specs.Layouts.{mineAt, Fits, Forced}
+use Rattle.fitting.specs.Equations.{isClosed, isKnownMine}
+use Rattle.fitting.specs.Passes.{Found as RuleFound}
+use Rattle.fitting.specs.Rules.{Sound}
+use Rattle.blocks.specs.Blocks.{BlockEquation, Block}
+use Rattle.blocks.specs.BlockSets.{allCells, allEquations}
+use Rattle.frontier.specs.Frontier.{closedBeside, equationOf, cellsMet, frontier}
+use Rattle.frontier.proofs.BlockLaws.{equation-rearranged, frontier-proper, Origin, equation-origin}
+use Rattle.frontier.proofs.Coverage.{frontier-closed, frontier-once, frontier-size}
+use Rattle.frontier.proofs.Fitting.{fits-solves}
+use Rattle.rules.specs.Found.{Found}
+use Rattle.rules.specs.Direct.{direct}
+use Rattle.rules.specs.Minus.{subtraction}
+use Rattle.rules.proofs.TakenOut.{RestsCover}
+use Rattle.rules.proofs.DirectLaws.{direct-among, direct-no-contradiction, direct-mines-true, direct-safe-false}
+use Rattle.rules.proofs.MinusLaws.{subtraction-mines-among, subtraction-safe-among, subtraction-no-contradiction, subtraction-mines-true, subtraction-safe-false}
+
+-- what the lists of an answer say is so in every layout that fits; their cells are of the frontier; and there is no contradiction where a layout fits
+pub record SoundAt (near : ℕ → List ℕ) (p : List ℕ) (answer : Found) : Type 0 where
+  pub safe-free : (c : ℕ) → has (answer .safe) c ≡ true → Forced near p c false
+  pub mines-mined : (c : ℕ) → has (answer .mines) c ≡ true → Forced near p c true
+  pub safe-among : Among (answer .safe) (allCells (frontier near p))
+  pub mines-among : Among (answer .mines) (allCells (frontier near p))
+  pub no-contradiction : (m : List Bool) → Fits near p m → answer .contradiction ≡ false
+
+-- ---- what follows of such an answer
+
+module _ (near : ℕ → List ℕ) (p : List ℕ) (l : List ℕ) (among : Among l (allCells (frontier near p))) where
+  -- cells of the frontier are closed
+  pub listed-closed : (c : ℕ) → has l c ≡ true → shows p c ≡ 10
+  listed-closed c h = frontier-closed near p c (among-has l (allCells (frontier near p)) among c h)
+
+  -- none stands twice
+  pub listed-once : nodup l ≡ true
+  listed-once = among-nodup l (allCells (frontier near p)) among (frontier-once near p)
+
+  -- and there are no more than the board has cells
+  pub listed-few : length l ≤ length p
+  listed-few = omega (arith, among-length l (allCells (frontier near p)) among, frontier-size near p)
+
+-- where some layout fits, no cell is in both lists
+pub listed-apart : (near : ℕ → List ℕ) (p : List ℕ) (answer : Found) → SoundAt near p answer → (m : List Bool) → Fits near p m
+    → (c : ℕ) → has (answer .mines) c ≡ true → has (answer .safe) c ≡ false
+listed-apart near p answer sound m fit c h = go (decided (has (answer .safe) c))
+  where
+    go : Decided (has (answer .safe) c) → has (answer .safe) c ≡ false
+    go (inl k) = clash (mineAt m c) (sound .mines-mined c h m fit) (sound .safe-free c k m fit)
+    go (inr k) = k
+
+-- a rule on blocks as a rule at a position, with its grade
+abbrev pub ruleOf : (ℕ → List ℕ) → (List Block → Found) → ℕ → List ℕ → RuleFound
+ruleOf near rule grade p = record { safe = rule (frontier near p) .safe; mines = rule (frontier near p) .mines; grade = grade }
+
+-- it is sound on every board where its answers are
+pub rule-sound : (near : ℕ → List ℕ) (rule : List Block → Found) (grade : ℕ) → ((p : List ℕ) → SoundAt near p (rule (frontier near p)))
+    → (b : List ℕ) → Sound near b (ruleOf near rule grade)
+rule-sound near rule grade sound b = record {
+  safe = λ p _ c h. (listed-closed near p (rule (frontier near p) .safe) (sound p .safe-among) c h, sound p .safe-free c h);
+  mines = λ p _ c h. (listed-closed near p (rule (frontier near p) .mines) (sound p .mines-among) c h, sound p .mines-mined c h);
+}
+
+-- ---- the remainders of the frontier
+
+-- a remainder plus 8 is at least the number of cells: closed neighbours and known mines are at most eight together
+pub frontier-covers : (near : ℕ → List ℕ) (p : List ℕ) → ((c : ℕ) → nodup (near c) ≡ true) → ((c : ℕ) → length (near c) ≤ 8)
+    → RestsCover (allEquations (frontier near p))
+frontier-covers near p once few e m = go (equation-origin near p e m)
+  where
+    apart : (c : ℕ) → isClosed p c ≡ true → isKnownMine p c ≡ false
+    apart c h = ne-eqb (shows p c) 11 (λ w. omega (arith, eqb-true (shows p c) 10 h))
+
+    together : (d : ℕ) → count (isClosed p) (near d) + count (isKnownMine p) (near d) ≤ length (near d)
+    together d =
+        omega (
+          arith,
+          among-length (keep (isClosed p) (near d) ++ keep (isKnownMine p) (near d)) (near d)
+              (keep-both-among (isClosed p) (isKnownMine p) (near d) (λ c _. apart c)),
+          length-append (keep (isClosed p) (near d)) (keep (isKnownMine p) (near d)),
+          length-keep (isClosed p) (near d),
+          length-keep (isKnownMine p) (near d),
+        )
+
+    go : Origin near p e → length (e .cells) ≤ e .rest
+    go o =
+        rw (o .same)
+        (omega (
+          arith,
+          rearranged-length (equationOf near p (cellsMet near p (o .part)) (o .source) .cells) (closedBeside near p (o .source))
+              (equation-rearranged near p (o .part) (o .source) (o .of-part) (once (o .source))),
+          length-keep (isClosed p) (near (o .source)),
+          together (o .source),
+          few (o .source),
+        ))
+
+-- ---- the two rules
+
+module _ (near : ℕ → List ℕ) (once : (c : ℕ) → nodup (near c) ≡ true) (few : (c : ℕ) → length (near c) ≤ 8) where
+  -- the direct rule
+  pub direct-sound-at : (p : List ℕ) → SoundAt near p (direct (frontier near p))
+  direct-sound-at p = record {
+    safe-free = λ c h m fit. direct-safe-false (frontier near p) (mineAt m) (fits-solves near p once few m fit) c h;
+    mines-mined = λ c h m fit. direct-mines-true (frontier near p) (mineAt m) (fits-solves near p once few m fit) c h;
+    safe-among = λ f. omega (arith, both f, among-right (direct (frontier near p) .mines) (direct (frontier near p) .safe) f);
+    mines-among = λ f. omega (arith, both f, among-left (direct (frontier near p) .mines) (direct (frontier near p) .safe) f);
+    no-contradiction = λ m fit. direct-no-contradiction (frontier near p) (mineAt m) (fits-solves near p once few m fit);
+  }
+    where
+      both : Among (direct (frontier near p) .mines ++ direct (frontier near p) .safe) (allCells (frontier near p))
+      both = direct-among (frontier near p) (frontier-proper near p)
+
+  -- the subtraction rule
+  pub subtraction-sound-at : (p : List ℕ) → SoundAt near p (subtraction (frontier near p))
+  subtraction-sound-at p = record {
+    safe-free = λ c h m fit. subtraction-safe-false (frontier near p) (mineAt m) proper (fits-solves near p once few m fit) c h;
+    mines-mined = λ c h m fit. subtraction-mines-true (frontier near p) (mineAt m) proper (fits-solves near p once few m fit) c h;
+    safe-among = subtraction-safe-among (frontier near p) (frontier-proper near p);
+    mines-among = subtraction-mines-among (frontier near p) (frontier-proper near p);
+    no-contradiction = λ m fit. subtraction-no-contradiction (frontier near p) (mineAt m) proper (fits-solves near p once few m fit);
+  }
+    where
+      proper : (b : Block) → List·Memᴰ b (frontier near p) → (e : BlockEquation) → List·Memᴰ e (b .equations) → nodup (e .cells) ≡ true
+      proper b m = frontier-proper near p b m .equations-once
+
+  -- so the direct rule is sound for the verdict, with the grade 1
+  pub direct-rule-sound : (b : List ℕ) → Sound near b (ruleOf near direct 1)
+  direct-rule-sound = rule-sound near direct 1 direct-sound-at
+
+  -- and the subtraction rule, with the grade 2
+  pub subtraction-rule-sound : (b : List ℕ) → Sound near b (ruleOf near subtraction 2)
+  subtraction-rule-sound = rule-sound near subtraction 2 subtraction-sound-at
