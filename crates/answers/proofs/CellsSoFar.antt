@@ -1,7 +1,7 @@
 -- The turns of the loop that reads a line's cells. Some cells are in the array, at most 1025, and they and the numbers from a place on make the line that is to be read. A number adds a
 -- cell, or nothing where the array is full. And a line that is read has its cells inside its array. Rests on the laws of a line's words, and of arrays with a count. Assumes nothing.
 use mathlib.Core.Path.{_≡_, refl, sym, ap, _∙_}
-use mathlib.Core.Bool.{Bool, true, false}
+use mathlib.Core.Bool.{Bool, true, false, cond}
 use mathlib.Core.List.{List, [], _∷_, _++_, map, append-assoc, append-nil}
 use Prim.Native.Nat.{ℕ, _+_, _-_, _≤_, _<_}
 use native.Mathlib.Omega.{arith}
@@ -12,8 +12,12 @@ use Rattle.lists.proofs.Arrays.{pad-push}
 use Rattle.text.specs.declared.Word.the-variants.{Number, End, Other}
 use Rattle.text.specs.Text.{wordAt}
 use Rattle.answers.specs.declared.lines.Line.{Line}
-use Rattle.answers.specs.Lines.{Numbers, numberBefore, numbersAt, cellByte, noLine, lineWith, withCells, lineFrom, lineOf}
+use Rattle.answers.specs.Lines.{Numbers, numberBefore, numbersAt, cellByte, cellsOf, noLine, lineWith, withCells, lineFrom, lineOf}
 use Rattle.answers.proofs.Words.{numbers-more, numbers-end, numbers-other}
+
+-- the line of these rows and columns with the cells that were read and the numbers behind them
+abbrev withBefore : ℕ → ℕ → List ℕ → Numbers → Line
+withBefore rows columns before ns = cond (ns .readable) (lineWith rows columns (take 1025 (before ++ map cellByte (ns .list)))) noLine
 
 -- the cells that were read make, with those from place `at` on, the line r
 pub record CellsSoFar (line : List ℕ) (rows columns : ℕ) (r : Line) (cells : List ℕ) (len at : ℕ) : Type 0 where
@@ -21,35 +25,35 @@ pub record CellsSoFar (line : List ℕ) (rows columns : ℕ) (r : Line) (cells :
   pub held : cells ≡ pad 1025 0 before
   pub counted : len ≡ length before
   pub few : length before ≤ 1025
-  pub left : withCells rows columns before (numbersAt line at) ≡ r
+  pub left : withBefore rows columns before (numbersAt line at) ≡ r
 
 -- ---- a number behind the cells that were read
 
 module _ (rows columns : ℕ) (before : List ℕ) (n : ℕ) where
-  more-cells : (ns : Numbers) → withCells rows columns before (numberBefore n ns) ≡ withCells rows columns (before ++ (cellByte n ∷ [])) ns
+  more-cells : (ns : Numbers) → withBefore rows columns before (numberBefore n ns) ≡ withBefore rows columns (before ++ (cellByte n ∷ [])) ns
   more-cells ns = go (ns .readable) (ns .list)
     where
-      go : (b : Bool) (l : List ℕ) → withCells rows columns before (numberBefore n (record { readable = b; list = l }))
-          ≡ withCells rows columns (before ++ (cellByte n ∷ [])) (record { readable = b; list = l })
+      go : (b : Bool) (l : List ℕ) → withBefore rows columns before (numberBefore n (record { readable = b; list = l }))
+          ≡ withBefore rows columns (before ++ (cellByte n ∷ [])) (record { readable = b; list = l })
       go true l = ap (λ (x : List ℕ). lineWith rows columns (take 1025 x)) (sym (append-assoc before (cellByte n ∷ []) (map cellByte l)))
       go false l = refl
 
   -- the array is full
-  no-more-cells : length before ≡ 1025 → (ns : Numbers) → withCells rows columns before (numberBefore n ns) ≡ withCells rows columns before ns
+  no-more-cells : length before ≡ 1025 → (ns : Numbers) → withBefore rows columns before (numberBefore n ns) ≡ withBefore rows columns before ns
   no-more-cells h ns = go (ns .readable) (ns .list)
     where
       first : (x : List ℕ) → take 1025 (before ++ x) ≡ take 1025 before
       first x = take-append-le 1025 before x (omega arith)
 
-      go : (b : Bool) (l : List ℕ) → withCells rows columns before (numberBefore n (record { readable = b; list = l }))
-          ≡ withCells rows columns before (record { readable = b; list = l })
+      go : (b : Bool) (l : List ℕ) → withBefore rows columns before (numberBefore n (record { readable = b; list = l }))
+          ≡ withBefore rows columns before (record { readable = b; list = l })
       go true l = ap (lineWith rows columns) (first (cellByte n ∷ map cellByte l) ∙ sym (first (map cellByte l)))
       go false l = refl
 
 -- ---- the turns
 
 module _ (line : List ℕ) (rows columns : ℕ) where
-  pub cells-none : (at : ℕ) (cells : List ℕ) → cells ≡ pad 1025 0 [] → CellsSoFar line rows columns (withCells rows columns [] (numbersAt line at)) cells 0 at
+  pub cells-none : (at : ℕ) (cells : List ℕ) → cells ≡ pad 1025 0 [] → CellsSoFar line rows columns (withCells rows columns (numbersAt line at)) cells 0 at
   cells-none at cells e = record { before = []; held = e; counted = refl; few = omega arith; left = refl }
 
   module _ {r : Line} {cells : List ℕ} {len at : ℕ} (v : CellsSoFar line rows columns r cells len at) where
@@ -80,7 +84,7 @@ module _ (line : List ℕ) (rows columns : ℕ) where
     pub cells-other : wordAt line at ≡ Other → noLine ≡ r
     cells-other e = rw (numbers-other line at e) at (v .left)
 
--- ---- a line that is read
+-- ---- a line that is read has its cells inside its array
 
 pad-longer : (x : List ℕ) → length x ≤ length (pad 1025 0 x)
 pad-longer x = omega (arith, length-append x (replicate (1025 - length x) 0))
@@ -92,5 +96,5 @@ line-fits line = go (numbersAt line 0 .readable) (numbersAt line 0 .list)
     go : (b : Bool) (l : List ℕ) → lineFrom (record { readable = b; list = l }) .len ≤ length (lineFrom (record { readable = b; list = l }) .cells)
     go true [] = pad-longer []
     go true (r ∷ []) = pad-longer []
-    go true (r ∷ c ∷ l) = pad-longer (take 1025 (map cellByte l))
+    go true (r ∷ c ∷ l) = pad-longer (cellsOf l)
     go false l = pad-longer []

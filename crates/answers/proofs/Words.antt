@@ -48,11 +48,11 @@ module _ (line : List ℕ) (at : ℕ) where
 
 -- ---- a line by its first two words
 
-two-before : (rows columns : ℕ) (ns : Numbers) → withCells rows columns [] ns ≡ lineFrom (numberBefore rows (numberBefore columns ns))
+two-before : (rows columns : ℕ) (ns : Numbers) → withCells rows columns ns ≡ lineFrom (numberBefore rows (numberBefore columns ns))
 two-before rows columns ns = go (ns .readable) (ns .list)
   where
     go : (b : Bool) (l : List ℕ)
-        → withCells rows columns [] (record { readable = b; list = l }) ≡ lineFrom (numberBefore rows (numberBefore columns (record { readable = b; list = l })))
+        → withCells rows columns (record { readable = b; list = l }) ≡ lineFrom (numberBefore rows (numberBefore columns (record { readable = b; list = l })))
     go true l = refl
     go false l = refl
 
@@ -74,7 +74,7 @@ module _ (line : List ℕ) where
     unfolding lineOf
     line-one-other e = rw (numbers-more line 0 rows second first, numbers-other line second e)
 
-    pub line-cells : (columns third : ℕ) → wordAt line second ≡ Number columns third → withCells rows columns [] (numbersAt line third) ≡ lineOf line
+    pub line-cells : (columns third : ℕ) → wordAt line second ≡ Number columns third → withCells rows columns (numbersAt line third) ≡ lineOf line
     unfolding lineOf
     line-cells columns third e =
         rw (numbers-more line 0 rows second first, numbers-more line second columns third e) (two-before rows columns (numbersAt line third))

@@ -1,7 +1,7 @@
 -- A line of decimal numbers as a position or a board: rows, columns, then the cells row by row. A line with anything else in it, or with fewer than two
 -- numbers, is unreadable. Assumes nothing.
 use mathlib.Core.Bool.{Bool, true, false, cond}
-use mathlib.Core.List.{List, [], _∷_, _++_, map}
+use mathlib.Core.List.{List, [], _∷_, map}
 use Prim.Native.Nat.{ℕ, zero, suc}
 use lib.Dec.{leb}
 use lib.ListN.{length, take}
@@ -29,18 +29,22 @@ afterWord behind (Number n next) = numberBefore n (behind next)
 afterWord behind End = record { readable = true; list = [] }
 afterWord behind Other = unreadable
 
--- the numbers of at most k - 1 words from a place on; a line with more is unreadable
+-- the numbers from a place on, where at most k words are read, the line's end as one of them
 abbrev pub numbersFrom : ℕ → List ℕ → ℕ → Numbers
 numbersFrom zero line at = unreadable
 numbersFrom (suc k) line at = afterWord (numbersFrom k line) (wordAt line at)
 
--- the numbers from a place on; a line has at most as many words as bytes
+-- the numbers from a place on; a line has at most as many numbers as bytes
 unfoldable pub numbersAt : List ℕ → ℕ → Numbers
 numbersAt line at = numbersFrom (suc (length line)) line at
 
 -- a number as a cell's byte; one that is none becomes 254, which no cell is
 abbrev pub cellByte : ℕ → ℕ
 cellByte n = cond (leb n 255) n 254
+
+-- numbers as cells, at most 1025: one more than any board has
+abbrev pub cellsOf : List ℕ → List ℕ
+cellsOf vs = take 1025 (map cellByte vs)
 
 abbrev pub noLine : Line
 noLine = record { readable = false; rows = 0; columns = 0; cells = pad 1025 0 []; len = 0 }
@@ -49,14 +53,14 @@ noLine = record { readable = false; rows = 0; columns = 0; cells = pad 1025 0 []
 abbrev pub lineWith : ℕ → ℕ → List ℕ → Line
 lineWith rows columns cells = record { readable = true; rows = rows; columns = columns; cells = pad 1025 0 cells; len = length cells }
 
--- the cells that some numbers are, behind those that were read before: at most 1025, one more than any board has
-abbrev pub withCells : ℕ → ℕ → List ℕ → Numbers → Line
-withCells rows columns before ns = cond (ns .readable) (lineWith rows columns (take 1025 (before ++ map cellByte (ns .list)))) noLine
+-- the line of these rows and columns with the numbers that follow them
+abbrev pub withCells : ℕ → ℕ → Numbers → Line
+withCells rows columns ns = cond (ns .readable) (lineWith rows columns (cellsOf (ns .list))) noLine
 
 abbrev pub fromNumbers : List ℕ → Line
 fromNumbers [] = noLine
 fromNumbers (r ∷ []) = noLine
-fromNumbers (r ∷ c ∷ vs) = lineWith r c (take 1025 (map cellByte vs))
+fromNumbers (r ∷ c ∷ vs) = lineWith r c (cellsOf vs)
 
 abbrev pub lineFrom : Numbers → Line
 lineFrom ns = cond (ns .readable) (fromNumbers (ns .list)) noLine

@@ -1,8 +1,8 @@
-// A line of decimal numbers read as a position or a board.
+// A line of decimal numbers read as a position or a board: rows, columns, and the cells row by row. The reading stops at the first word that is no
+// number, and the line is unreadable then.
 use text::Word;
 use text::number_at;
 ghost use mathlib.Core.Path.{_≡_};
-ghost use mathlib.Core.List.{[]};
 ghost use Rattle.answers.specs.Lines.{cellByte, noLine, withCells, numbersAt, lineOf};
 
 // Rows, columns and the cells, 0 in the slots past len.
@@ -36,7 +36,7 @@ fn cell_byte(number: usize) -> u8
 
 // The cells from a place on, at most 1025 of them, with the rows and columns that stand before them.
 fn read_cells(line: &[u8], from: usize, rows: usize, columns: usize) -> Line
-    ensures { λ r. ⌜ r ≡ withCells rows columns [] (numbersAt (now (line .entry)) from) ⌝ }
+    ensures { λ r. ⌜ r ≡ withCells rows columns (numbersAt (now (line .entry)) from) ⌝ }
 {
     let mut cells = [0u8; 1025];
     let mut len = 0;

@@ -45,7 +45,7 @@ fn take_all(chunk: &[u8], line: &mut [u8], before: usize, out: &mut [u8]) -> usi
     len
 }
 
-// How many chunks may still be read: none behind one that is not full, which the input's end makes.
+// How many chunks may still be read: none after one that is not full, since the input has ended.
 fn chunks_left(left: usize, len: usize, full: usize) -> usize
     requires { ⌜ 0 < left ⌝ }
     ensures { λ r. ⌜ r < left ⌝ }

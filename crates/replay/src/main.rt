@@ -123,7 +123,7 @@ fn take_all(
     s
 }
 
-// How many chunks may still be read: none behind one that is not full, which the input's end makes.
+// How many chunks may still be read: none after one that is not full, since the input has ended.
 fn chunks_left(left: usize, len: usize, full: usize) -> usize
     requires { ⌜ 0 < left ⌝ }
     ensures { λ r. ⌜ r < left ⌝ }

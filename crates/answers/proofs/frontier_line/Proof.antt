@@ -1,6 +1,6 @@
 -- `frontier_line` meets its contract: the writes of each of its three ways are the answer's text, one behind the other (`AnswerWritten`), and the block set of the answer is
 -- whole (`WholeBlocks`). Assumes nothing.
-use mathlib.Core.Path.{_≡_, sym, ap, _∙_}
+use mathlib.Core.Path.{_≡_}
 use mathlib.Core.Bool.{true}
 use Prim.Native.Nat.{_≤_}
 use native.Mathlib.Omega.{arith}

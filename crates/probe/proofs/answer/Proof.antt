@@ -1,4 +1,5 @@
--- `answer` is safe and ends: the text that it prints stands inside the buffer, by what `frontier_line` ensures. Assumes nothing.
+-- `answer` is safe and ends: the line stands inside its buffer, by the test, and so does the text that is printed, by what `frontier_line` ensures.
+-- Assumes nothing.
 use native.Mathlib.Omega.{arith}
 use lib.ListN.{length-take}
 use borrow.Author.Needs.{needs}

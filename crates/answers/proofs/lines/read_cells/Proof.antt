@@ -1,7 +1,6 @@
 -- `read_cells` meets its contract. The loop's invariant: the cells in the array and those from place `at` on make the line that is to be read. The measure is what is left of the
 -- line: a number that is read ends behind its beginning and inside the line. Rests on the turns of `CellsSoFar`. Assumes nothing.
 use mathlib.Core.Path.{_≡_, sym, _∙_}
-use mathlib.Core.List.{[]}
 use Prim.Native.Nat.{_-_, _≤_, _<_}
 use native.Mathlib.Omega.{arith}
 use lib.ListN.{length}
@@ -16,7 +15,7 @@ use Rattle.answers.proofs.lines.read_cells.Statement.{statement}
 use Rattle.answers.proofs.lines.read_cells.Tie as tie
 
 abbrev Inv-loop : tie.InvT-loop
-Inv-loop line from rows columns cells₀ len₀ at₀ cells len at = CellsSoFar line rows columns (withCells rows columns [] (numbersAt line from)) cells len at
+Inv-loop line from rows columns cells₀ len₀ at₀ cells len at = CellsSoFar line rows columns (withCells rows columns (numbersAt line from)) cells len at
 
 abbrev μ-loop : tie.MeasureT-loop
 μ-loop line from rows columns cells₀ len₀ at₀ cells len at = length line - at
