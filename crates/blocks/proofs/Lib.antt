@@ -6,3 +6,8 @@ pub mod Room
 pub mod Reading
 pub mod Turns
 pub mod Saying
+-- marks, places in the arrays, blocks put behind others, and where a block stands
+pub mod MarkLaws
+pub mod Between
+pub mod Behind
+pub mod Standing

@@ -1,14 +1,16 @@
 // The block set: blocks of equations in one struct of flat arrays, passed by value through the rules. Inside a rule its arrays are lent to the
 // functions that loop. specs/BlockSets.antt says what the arrays hold.
 use grid::window::Neighbours;
+use grid::window::wide;
 ghost use mathlib.Core.Path.{_≡_};
 ghost use mathlib.Core.List.{[]};
 ghost use Prim.Native.Nat.{_*_, _≤_, _<_};
 ghost use lib.ListN.{length, take};
 ghost use lib.Seq.{sets};
-ghost use Rattle.lists.specs.Lists.{pad};
+ghost use Rattle.lists.specs.Lists.{any, pad};
 ghost use Rattle.grid.specs.Window.{listed};
-ghost use Rattle.blocks.specs.BlockSets.{blockSet, slotCells};
+ghost use Rattle.blocks.specs.BlockSets.{blockSet, slotCells, beginAt};
+ghost use Rattle.blocks.specs.Places.{marked, OnBoard, boundsAt};
 
 // In a slot for a cell: no cell.
 pub const NO_CELL: u16 = 65535;
@@ -76,4 +78,48 @@ pub fn slots_at(slots: &[u16; 8192], e: usize) -> Neighbours
         len += 1;
     }
     Neighbours { cells, len }
+}
+
+// Where a block's cells and equations begin and end.
+pub struct Bounds {
+    pub first_cell: usize,
+    pub end_cell: usize,
+    pub first_equation: usize,
+    pub end_equation: usize,
+}
+
+// Where part k begins: at the end of the part before it.
+pub fn begin_at(ends: &[u16; 1024], k: usize) -> usize
+    requires { ⌜ k ≤ 1024 ⌝ }
+    ensures { λ r. ⌜ r ≡ beginAt (now (ends .entry)) k ⌝ }
+{
+    if k == 0 { 0 } else { wide(ends[k - 1]) }
+}
+
+// Where block b begins and ends.
+pub fn bounds_at(cell_ends: &[u16; 1024], equation_ends: &[u16; 1024], b: usize) -> Bounds
+    requires { ⌜ b < 1024 ⌝ }
+    ensures { λ r. ⌜ r ≡ boundsAt (now («cell_ends» .entry)) (now («equation_ends» .entry)) b ⌝ }
+{
+    Bounds {
+        first_cell: begin_at(cell_ends, b),
+        end_cell: wide(cell_ends[b]),
+        first_equation: begin_at(equation_ends, b),
+        end_equation: wide(equation_ends[b]),
+    }
+}
+
+// Is a cell of the list marked?
+pub fn meets_marks(marks: &[u8; 1024], list: Neighbours) -> bool
+    requires { ⌜ OnBoard list ⌝ }
+    ensures { λ r. ⌜ r ≡ any (marked (now (marks .entry))) (take (list .len) (list .cells)) ⌝ }
+{
+    let cells = list.cells;
+    let len = list.len;
+    for k in 0..len {
+        if marks[wide(cells[k])] == 1 {
+            return true;
+        }
+    }
+    false
 }

@@ -22,7 +22,8 @@ use Rattle.blocks.specs.Blocks.{BlockEquation, Block}
 use Rattle.blocks.specs.BlockSets.{allCells, allEquations}
 use Rattle.chunks.specs.Chunks.{parts, alone, chunkMatrix, chunkMatrixes}
 use Rattle.chunks.proofs.Connected.{inEquation, connected-adds, connected-stays, widened-none}
-use Rattle.chunks.proofs.Parts.{turned, reach, cells-append, equations-append, parts-cells, parts-equations}
+use Rattle.blocks.proofs.Behind.{cells-append, equations-append}
+use Rattle.chunks.proofs.Parts.{turned, reach, parts-cells, parts-equations}
 
 -- ---- words
 

@@ -11,7 +11,8 @@ use Rattle.lists.specs.Lists.{range, keep, any}
 use Rattle.lists.proofs.Members.{range-none}
 use Rattle.lists.proofs.Backwards.{range-back, back-kept, back-passed}
 use Rattle.blocks.specs.BlockSets.{slotCells}
-use Rattle.chunks.specs.Splitting.{marked, cellsFrom, markedCells, markedPlaces}
+use Rattle.blocks.specs.Places.{marked, cellsFrom}
+use Rattle.chunks.specs.Splitting.{markedCells, markedPlaces}
 
 -- ---- cells, from the last
 

@@ -6,9 +6,9 @@ pub mod Sizes
 pub mod Apart
 pub mod Solutions
 pub mod Marking
-pub mod Between
+pub mod Looked
 pub mod Gathered
-pub mod Behind
+pub mod Bare
 pub mod Shown
 pub mod Remaining
 pub mod InSet

@@ -4,7 +4,7 @@
 use mathlib.Core.Path.{_≡_, refl, sym, ap, _∙_}
 use mathlib.Core.Logic.{_⊎_, inl, inr}
 use mathlib.Core.Bool.{Bool, true, false, not, cond, _&&_}
-use mathlib.Core.List.{List, [], _∷_, _++_, map, map-append, append-nil, reverse, List·Memᴰ, List·Memᴰ·not-nil, List·Memᴰ·append-cases, List·Memᴰ·eq-of-singleton}
+use mathlib.Core.List.{List, [], _∷_, _++_, map, append-nil, reverse, List·Memᴰ, List·Memᴰ·not-nil, List·Memᴰ·append-cases, List·Memᴰ·eq-of-singleton}
 use Prim.Native.Nat.{ℕ, zero, suc, _+_, _≤_}
 use native.Mathlib.Omega.{arith}
 use lib.ListN.{length}
@@ -12,25 +12,15 @@ use Rattle.lists.specs.Lists.{bit, keep, count, empty, joined, has, meets}
 use Rattle.lists.proofs.Tests.{Decided, decided, clash}
 use Rattle.lists.proofs.Members.{has-head, has-tail, has-keep, kept-passes, kept-has}
 use Rattle.lists.proofs.Counts.{any-at, any-of, count-le, count-ext, count-zero, count-split, length-keep}
-use Rattle.lists.proofs.Joined.{joined-append}
 use Rattle.lists.proofs.Kept.{keep-stricter}
 use Rattle.lists.proofs.Occurrences.{empty-nothing, not-empty, empty-nil, kept-in, in-kept, reverse-in, in-reverse, any-in, in-any, map-in, in-map}
 use Rattle.lists.proofs.CountsAlike.{counts-append, counts-reverse, counts-keep, counts-sum, counts-zero, counts-map}
 use Rattle.lists.proofs.Sharing.{Apart, Within, meets-apart, apart-meets, one-apart, all-within}
 use Rattle.blocks.specs.Blocks.{BlockEquation, Block}
 use Rattle.blocks.specs.BlockSets.{allCells, allEquations}
+use Rattle.blocks.proofs.Behind.{cells-append, equations-append}
 use Rattle.chunks.specs.Chunks.{connected, part, parts}
 use Rattle.chunks.proofs.Connected.{Closed, Chain, here, next, inEquation, connected-adds, connected-stays, widened-none, connected-closed, connected-within, connected-apart, connected-chain}
-
--- ---- blocks one after another
-
-pub cells-append : (bs cs : List Block) → allCells (bs ++ cs) ≡ allCells bs ++ allCells cs
-cells-append bs cs = ap joined (map-append (λ (b : Block). b .cells) bs cs) ∙ joined-append (map (λ (b : Block). b .cells) bs) (map (λ (b : Block). b .cells) cs)
-
-pub equations-append : (bs cs : List Block) → allEquations (bs ++ cs) ≡ allEquations bs ++ allEquations cs
-equations-append bs cs =
-    ap joined (map-append (λ (b : Block). b .equations) bs cs)
-    ∙ joined-append (map (λ (b : Block). b .equations) bs) (map (λ (b : Block). b .equations) cs)
 
 -- ---- words
 

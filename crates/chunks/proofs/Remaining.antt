@@ -20,11 +20,12 @@ use Rattle.lists.proofs.Unions.{has-mem, mem-has}
 use Rattle.blocks.specs.Blocks.{BlockEquation, Block}
 use Rattle.blocks.specs.BlockSets.{before, slotCells}
 use Rattle.chunks.specs.Chunks.{connected, parts, alone}
-use Rattle.chunks.specs.declared.Bounds.{Bounds}
-use Rattle.chunks.specs.Splitting.{marked, Marks, bare, cellsFrom, equationsFrom, blockFrom, markedPart, allParts}
+use Rattle.blocks.proofs.Between.{cells-more, cells-none, equationOf, equations-more, equations-none}
+use Rattle.blocks.proofs.MarkLaws.{marks-has}
+use Rattle.blocks.specs.Places.{marked, Marks, cellsFrom, equationsFrom, blockFrom}
+use Rattle.blocks.specs.declared.Bounds.{Bounds}
+use Rattle.chunks.specs.Splitting.{bare, markedPart, allParts}
 use Rattle.chunks.proofs.Parts.{around, own, others}
-use Rattle.chunks.proofs.Marking.{marks-has}
-use Rattle.chunks.proofs.Between.{cells-more, cells-none, equationOf, equations-more, equations-none}
 use Rattle.chunks.proofs.Shown.{shown-part}
 
 -- ---- equations without cells

@@ -17,12 +17,13 @@ use Rattle.blocks.specs.Blocks.{BlockEquation, Block}
 use Rattle.blocks.specs.BlockSets.{allCells, allEquations, slotsOf, slotCells, blockSet, beginAt, blocksOf}
 use Rattle.blocks.specs.declared.BlockSet.{BlockSet}
 use Rattle.chunks.specs.Chunks.{part}
-use Rattle.chunks.specs.declared.Bounds.{Bounds}
-use Rattle.chunks.specs.Splitting.{marked, Marks, Room, cellsFrom, equationsFrom, blockFrom, markedCells, markedPlaces, markedPart}
+use Rattle.blocks.proofs.Behind.{cells-held, equations-held, put-behind, room-cells, room-equations}
+use Rattle.blocks.proofs.Between.{equationOf}
+use Rattle.blocks.proofs.MarkLaws.{marks-has, marks-meets}
+use Rattle.blocks.specs.Places.{marked, Marks, Room, cellsFrom, equationsFrom, blockFrom}
+use Rattle.blocks.specs.declared.Bounds.{Bounds}
+use Rattle.chunks.specs.Splitting.{markedCells, markedPlaces, markedPart}
 use Rattle.chunks.proofs.Parts.{turned}
-use Rattle.chunks.proofs.Marking.{marks-has, marks-meets}
-use Rattle.chunks.proofs.Between.{equationOf}
-use Rattle.chunks.proofs.Behind.{cells-held, equations-held, put-behind, room-cells, room-equations}
 
 module _ (marks cells slots rests : List ℕ) (bounds : Bounds) where
   -- the marked cells, and the places of the equations that have one

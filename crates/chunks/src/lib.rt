@@ -1,7 +1,11 @@
 // chunk_matrix and chunk_matrixes: the blocks of a set split anew into connected parts, blocks from the last to the first, in the Rust's order.
 // A part is found by marking: its first cell, then the cells of each equation that has a marked cell, until a look at all equations marks nothing new.
 use blocks::BlockSet;
+use blocks::Bounds;
+use blocks::begin_at;
+use blocks::bounds_at;
 use blocks::empty_set;
+use blocks::meets_marks;
 use blocks::put_slots;
 use blocks::slots_at;
 use grid::window::Neighbours;
@@ -15,32 +19,10 @@ ghost use lib.Seq.{sets};
 ghost use Rattle.lists.specs.Lists.{any, has, keep, empty, joined, pad, addNew};
 ghost use Rattle.grid.specs.Window.{listed};
 ghost use Rattle.blocks.specs.Blocks.{BlockEquation};
-ghost use Rattle.blocks.specs.BlockSets.{blockSet, blocksOf, beginAt, slotCells, Whole};
+ghost use Rattle.blocks.specs.BlockSets.{blockSet, blocksOf, slotCells, Whole};
+ghost use Rattle.blocks.specs.Places.{marked, Marks, OnBoard, Slots, Cells, Arrays, Room, cellsFrom, equationsFrom, blockFrom};
 ghost use Rattle.chunks.specs.Chunks.{widened, connected, alone, chunkMatrix, chunkMatrixes};
-ghost use Rattle.chunks.specs.Splitting.{marked, Marks, Changed, OnBoard, Slots, Cells, Arrays, Room, cellsFrom, equationsFrom, blockFrom, markedCells, markedPlaces, markedPart, allParts, bare, boundsAt};
-
-// Where a block's cells and equations begin and end.
-pub struct Bounds {
-    pub first_cell: usize,
-    pub end_cell: usize,
-    pub first_equation: usize,
-    pub end_equation: usize,
-}
-
-// Is a cell of the list marked?
-fn meets_marks(marks: &[u8; 1024], list: Neighbours) -> bool
-    requires { ⌜ OnBoard list ⌝ }
-    ensures { λ r. ⌜ r ≡ any (marked (now (marks .entry))) (take (list .len) (list .cells)) ⌝ }
-{
-    let cells = list.cells;
-    let len = list.len;
-    for k in 0..len {
-        if marks[wide(cells[k])] == 1 {
-            return true;
-        }
-    }
-    false
-}
+ghost use Rattle.chunks.specs.Splitting.{Changed, markedCells, markedPlaces, markedPart, allParts, bare};
 
 // Marks the cells of a list; was one not marked before?
 fn mark_all(marks: &mut [u8; 1024], list: Neighbours) -> bool
@@ -191,14 +173,6 @@ fn put_rests(
     }
 }
 
-// Where part k begins: at the end of the part before it.
-fn begin_at(ends: &[u16; 1024], k: usize) -> usize
-    requires { ⌜ k ≤ 1024 ⌝ }
-    ensures { λ r. ⌜ r ≡ beginAt (now (ends .entry)) k ⌝ }
-{
-    if k == 0 { 0 } else { wide(ends[k - 1]) }
-}
-
 // The part of a block that has the marked cells goes to the end of a set; one without an equation does not.
 fn put_part(
     marks: &[u8; 1024],
@@ -340,19 +314,6 @@ fn chunk_matrix(
     }
     let t = put_parts(cells, slots, rests, bounds, out);
     put_alone(slots, rests, bounds.first_equation, bounds.end_equation, t)
-}
-
-// Where block b begins and ends.
-fn bounds_at(cell_ends: &[u16; 1024], equation_ends: &[u16; 1024], b: usize) -> Bounds
-    requires { ⌜ b < 1024 ⌝ }
-    ensures { λ r. ⌜ r ≡ boundsAt (now («cell_ends» .entry)) (now («equation_ends» .entry)) b ⌝ }
-{
-    Bounds {
-        first_cell: begin_at(cell_ends, b),
-        end_cell: wide(cell_ends[b]),
-        first_equation: begin_at(equation_ends, b),
-        end_equation: wide(equation_ends[b]),
-    }
 }
 
 // chunk_matrixes: the blocks of a set from the last to the first, each split anew.

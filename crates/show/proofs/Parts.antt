@@ -72,12 +72,6 @@ listed-numbers l =
     let e : length l - 0 ≡ length l = omega arith in
     ap (λ (n : ℕ). map (λ (i : ℕ). getD (pad 8 0 l) i 0) (range 0 n)) e ∙ simp pad-read (read-all l 0)
 
--- ---- where a part begins and ends
-
-pub begin-later : (ends : List ℕ) (k : ℕ) → (k ≡ 0 → ⊥) → getD ends (k - 1) 0 ≡ beginAt ends k
-begin-later ends zero h = absurd (h refl)
-begin-later ends (suc k) h = let e : suc k - 1 ≡ k = omega arith in rw e
-
 ends-within : {A B : Type 0} (f : B → List A) (n : ℕ) (bs : List B) (k : ℕ) → getD (endsFrom n (map (λ (b : B). length (f b)) bs)) k 0 ≤ n + length (joined (map f bs))
 ends-within f n [] k = omega arith
 ends-within f n (b ∷ bs) zero = omega (arith, length-append (f b) (joined (map f bs)))

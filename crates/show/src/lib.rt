@@ -1,7 +1,9 @@
 // Answers as lines of text: block sets and positions, written into a lent buffer. A struct's arrays are copied into locals before they are lent, since a
 // field cannot be lent beside another. specs/ says what the text of each thing is.
 use blocks::BlockSet;
+use blocks::begin_at;
 use blocks::slots_at;
+use grid::window::wide;
 use text::put_byte;
 use text::put_bytes;
 use text::put_number;
@@ -11,16 +13,9 @@ ghost use Prim.Native.Nat.{_-_, _≤_, _<_};
 ghost use lib.ListN.{length};
 ghost use Rattle.lists.specs.Lists.{range, joined};
 ghost use Rattle.text.specs.Text.{decimal, Written};
-ghost use Rattle.blocks.specs.BlockSets.{beginAt, blocksOf, Whole};
+ghost use Rattle.blocks.specs.BlockSets.{blocksOf, Whole};
 ghost use Rattle.show.specs.Blocks.{nextNumber, numbersIn, numbersText, remainderText, equationIn, equationText, blockIn, blockText, blocksText, Inside};
 ghost use Rattle.show.specs.Cells.{cellsText};
-
-// A number of an array, as wide as a place.
-fn wide(x: u16) -> usize
-    ensures { λ r. ⌜ r ≡ x ⌝ }
-{
-    x as usize
-}
 
 // A byte, as wide as a place.
 fn wide_byte(x: u8) -> usize
@@ -116,17 +111,6 @@ fn put_equations(
         k = put_equation(out, k, slots, rests, e);
     }
     k
-}
-
-// Where part k begins: at the end of the part before it.
-fn begin_at(ends: &[u16; 1024], k: usize) -> usize
-    requires { ⌜ k < 1024 ⌝ }
-    ensures { λ r. ⌜ r ≡ beginAt (now (ends .entry)) k ⌝ }
-{
-    if k == 0 {
-        return 0;
-    }
-    wide(ends[k - 1])
 }
 
 // The block at place k.

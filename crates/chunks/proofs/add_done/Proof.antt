@@ -7,9 +7,9 @@ use mathlib.Core.Logic.{⊎-elim}
 use native.Mathlib.Omega.{arith}
 use lib.ListN.{length, length-set}
 use borrow.Author.Tests.{eq-eqb, ne-eqb}
-use Rattle.chunks.specs.Splitting.{cellsFrom}
+use Rattle.blocks.proofs.Between.{cells-more, cells-none}
+use Rattle.blocks.specs.Places.{cellsFrom}
 use Rattle.chunks.proofs.Marking.{doneWith, done-marked, done-unmarked, done-end}
-use Rattle.chunks.proofs.Between.{cells-more, cells-none}
 use borrow.Author.Needs.{needs}
 use Rattle.chunks.proofs.add_done.Statement.{statement}
 use Rattle.chunks.proofs.add_done.Tie as tie

@@ -7,8 +7,9 @@ use lib.ListN.{length, take}
 use Rattle.blocks.specs.BlockSets.{blocksOf}
 use Rattle.blocks.specs.declared.BlockSet.{BlockSet}
 use Rattle.chunks.specs.Chunks.{chunkMatrixes}
-use Rattle.chunks.proofs.Behind.{Growing, blocks-held}
-use Rattle.chunks.proofs.InSet.{arrays-in, order-in, chunks-start, chunks-room, chunks-next, chunks-end}
+use Rattle.blocks.proofs.Behind.{Growing, blocks-held}
+use Rattle.blocks.proofs.Standing.{arrays-in, order-in}
+use Rattle.chunks.proofs.InSet.{chunks-start, chunks-room, chunks-next, chunks-end}
 use borrow.Author.Needs.{needs}
 use Rattle.chunks.proofs.chunk_matrixes.Statement.{statement}
 use Rattle.chunks.proofs.chunk_matrixes.Tie as tie

@@ -6,8 +6,9 @@ use mathlib.Core.List.{List, [], _∷_}
 use native.Mathlib.Omega.{arith}
 use lib.ListN.{length, replicate, length-replicate, length-set}
 use borrow.Author.Tests.{not-true}
-use Rattle.chunks.specs.Splitting.{equationsFrom}
-use Rattle.chunks.proofs.Marking.{marks-first, Connecting, connecting-next, connecting-still, connecting-end}
+use Rattle.blocks.proofs.MarkLaws.{marks-first}
+use Rattle.blocks.specs.Places.{equationsFrom}
+use Rattle.chunks.proofs.Marking.{Connecting, connecting-next, connecting-still, connecting-end}
 use borrow.Author.Needs.{needs}
 use Rattle.chunks.proofs.connected_with.Statement.{statement}
 use Rattle.chunks.proofs.connected_with.Tie as tie

@@ -9,8 +9,9 @@ use lib.ListN.{length, take, drop, length-set}
 use borrow.Author.Tests.{eq-eqb, ne-eqb}
 use Rattle.lists.specs.Lists.{addNew}
 use Rattle.lists.proofs.Counted.{counted-none}
-use Rattle.chunks.specs.Splitting.{Marks}
-use Rattle.chunks.proofs.Marking.{marks-push, Towards, towards-start, towards-end, towards-pass, towards-new, adding-old, adding-new, list-next, list-below}
+use Rattle.blocks.proofs.MarkLaws.{marks-push, list-next, list-below}
+use Rattle.blocks.specs.Places.{Marks}
+use Rattle.chunks.proofs.Marking.{Towards, towards-start, towards-end, towards-pass, towards-new, adding-old, adding-new}
 use borrow.Author.Needs.{needs}
 use Rattle.chunks.proofs.mark_all.Statement.{statement}
 use Rattle.chunks.proofs.mark_all.Tie as tie

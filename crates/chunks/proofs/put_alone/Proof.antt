@@ -5,7 +5,7 @@ use mathlib.Core.List.{_++_}
 use mathlib.Core.Logic.{⊎-elim}
 use native.Mathlib.Omega.{arith}
 use Rattle.blocks.specs.BlockSets.{blocksOf}
-use Rattle.chunks.proofs.Behind.{Growing, growing-start, growing-room, growing-next, growing-pass, growing-end}
+use Rattle.blocks.proofs.Behind.{Growing, growing-start, growing-room, growing-next, growing-pass, growing-end}
 use Rattle.chunks.proofs.Remaining.{slot-filler, slot-cell, bareFrom, bare-more, bare-pass, bare-none}
 use borrow.Author.Needs.{needs}
 use Rattle.chunks.proofs.put_alone.Statement.{statement}

@@ -1,7 +1,8 @@
 -- `chunks::put_bare` meets its contract: the slots of an equation without cells are fillers already, so that only its remainder and the ends are stored.
 -- Rests on `put-bare`. Assumes nothing.
 use native.Mathlib.Omega.{arith}
-use Rattle.chunks.proofs.Behind.{room-blocks, bare-next, bare-last, put-bare}
+use Rattle.blocks.proofs.Behind.{room-blocks}
+use Rattle.chunks.proofs.Bare.{bare-next, bare-last, put-bare}
 use Rattle.chunks.proofs.put_bare.Statement.{statement}
 use Rattle.chunks.proofs.put_bare.Tie as tie
 

@@ -7,8 +7,9 @@ use native.Mathlib.Omega.{arith}
 use lib.Seq.{sets}
 use Rattle.lists.specs.Lists.{pad}
 use Rattle.blocks.specs.BlockSets.{slotCells}
+use Rattle.blocks.proofs.Between.{listed-on-board, listed-marked}
+use Rattle.chunks.proofs.Looked.{slots-turned, back-few, back-cells}
 use Rattle.chunks.specs.Splitting.{markedPlaces}
-use Rattle.chunks.proofs.Between.{listed-on-board, listed-marked, slots-turned, back-few, back-cells}
 use Rattle.lists.proofs.Storing.{Storing, storing-start, storing-room, storing-next, storing-pass, storing-end}
 use Rattle.chunks.proofs.Gathered.{place-kept, place-passed, place-none}
 use borrow.Author.Needs.{needs}

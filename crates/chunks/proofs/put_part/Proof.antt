@@ -1,7 +1,7 @@
 -- `chunks::put_part` meets its contract: what the functions that it calls store is what one block more has in each array, and where no equation has a
 -- marked cell nothing is stored. Rests on `shown-put`. Assumes nothing.
 use native.Mathlib.Omega.{arith}
-use Rattle.chunks.proofs.Behind.{cells-long, slots-long, rests-long, blocks-held, room-blocks}
+use Rattle.blocks.proofs.Behind.{cells-long, slots-long, rests-long, blocks-held, room-blocks}
 use Rattle.chunks.proofs.Shown.{shown-fits, shown-nothing, shown-room, shown-cells-fit, shown-put}
 use Rattle.chunks.proofs.put_part.Statement.{statement}
 use Rattle.chunks.proofs.put_part.Tie as tie

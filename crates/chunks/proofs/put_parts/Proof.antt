@@ -8,8 +8,9 @@ use native.Mathlib.Omega.{arith}
 use lib.ListN.{length, length-replicate}
 use borrow.Author.Tests.{eq-eqb, ne-eqb}
 use Rattle.blocks.specs.BlockSets.{blocksOf}
-use Rattle.chunks.specs.Splitting.{blockFrom, allParts}
-use Rattle.chunks.proofs.Behind.{Growing, growing-start, growing-room, growing-next, growing-pass, growing-end}
+use Rattle.blocks.proofs.Behind.{Growing, growing-start, growing-room, growing-next, growing-pass, growing-end}
+use Rattle.blocks.specs.Places.{blockFrom}
+use Rattle.chunks.specs.Splitting.{allParts}
 use Rattle.chunks.proofs.Remaining.{partsLeft, parts-start, parts-done, parts-pass, parts-first, parts-others}
 use borrow.Author.Needs.{needs}
 use Rattle.chunks.proofs.put_parts.Statement.{statement}

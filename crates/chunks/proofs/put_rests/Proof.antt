@@ -5,8 +5,8 @@ use mathlib.Core.Path.{_≡_, refl, sym, _∙_}
 use mathlib.Core.List.{[], _∷_}
 use native.Mathlib.Omega.{arith}
 use lib.ListN.{getD}
+use Rattle.blocks.proofs.Between.{listed-on-board, listed-marked}
 use Rattle.chunks.specs.Splitting.{markedPlaces}
-use Rattle.chunks.proofs.Between.{listed-on-board, listed-marked}
 use Rattle.lists.proofs.Storing.{Storing, storing-start, storing-room, storing-next, storing-pass, storing-end, single-store, single-stored}
 use Rattle.chunks.proofs.Gathered.{place-kept, place-passed, place-none}
 use borrow.Author.Needs.{needs}

@@ -7,9 +7,10 @@ use mathlib.Core.Logic.{⊎-elim}
 use lib.ListN.{length}
 use Rattle.blocks.specs.Blocks.{BlockEquation}
 use Rattle.chunks.specs.Chunks.{widened}
-use Rattle.chunks.specs.Splitting.{Marks, equationsFrom}
+use Rattle.blocks.proofs.Between.{equations-none, listed-on-board}
+use Rattle.blocks.specs.Places.{Marks, equationsFrom}
+use Rattle.chunks.proofs.Looked.{look-pass, look-add}
 use Rattle.chunks.proofs.Marking.{Towards, towards-start, towards-end, towards-pass, towards-new, towards-changed}
-use Rattle.chunks.proofs.Between.{equations-none, listed-on-board, look-pass, look-add}
 use borrow.Author.Needs.{needs}
 use Rattle.chunks.proofs.widen.Statement.{statement}
 use Rattle.chunks.proofs.widen.Tie as tie

@@ -4,7 +4,7 @@
 use mathlib.Core.Path.{_≡_, refl, sym, ap, _∙_}
 use mathlib.Core.Bool.{true, _&&_}
 use mathlib.Core.List.{List, [], _∷_, _++_, map, map-append, append-nil, append-assoc}
-use Prim.Native.Nat.{ℕ, _+_, _-_, _*_, _≤_, _<_}
+use Prim.Native.Nat.{ℕ, _+_, _*_, _≤_, _<_}
 use native.Mathlib.Nat.{zero-add}
 use native.Mathlib.Omega.{arith}
 use lib.Dec.{ltb}
@@ -14,18 +14,25 @@ use Rattle.lists.specs.Lists.{all, joined, pad}
 use Rattle.lists.proofs.Tests.{and-left, and-right}
 use Rattle.lists.proofs.All.{all-append}
 use Rattle.lists.proofs.Arrays.{length-pad}
-use Rattle.lists.proofs.Joined.{joined-append, joined-push, pad-sets}
-use Rattle.lists.proofs.Storing.{pad-filler}
+use Rattle.lists.proofs.Joined.{joined-append, pad-sets}
 use Rattle.blocks.specs.Blocks.{BlockEquation, Block}
 use Rattle.blocks.specs.BlockSets.{allCells, allEquations, endsFrom, slotsOf, blockSet, beginAt, blocksOf, smallEquation, Small, Whole}
+use Rattle.blocks.specs.Places.{Room}
 use Rattle.blocks.specs.declared.BlockSet.{BlockSet}
-use Rattle.blocks.proofs.Slots.{allSlots, length-all-slots, put-slots-push}
+use Rattle.blocks.proofs.Slots.{allSlots, length-all-slots}
 use Rattle.blocks.proofs.Ends.{endsOf, begin-padded}
 use Rattle.blocks.proofs.Filling.{cells-push, equations-push, block-push}
 use Rattle.blocks.proofs.Reading.{blocks-of-set}
-use Rattle.chunks.specs.Chunks.{alone}
-use Rattle.chunks.specs.Splitting.{Room, bare}
-use Rattle.chunks.proofs.Parts.{cells-append, equations-append}
+
+-- ---- cells and equations of two lists of blocks
+
+pub cells-append : (bs cs : List Block) → allCells (bs ++ cs) ≡ allCells bs ++ allCells cs
+cells-append bs cs = ap joined (map-append (λ (b : Block). b .cells) bs cs) ∙ joined-append (map (λ (b : Block). b .cells) bs) (map (λ (b : Block). b .cells) cs)
+
+pub equations-append : (bs cs : List Block) → allEquations (bs ++ cs) ≡ allEquations bs ++ allEquations cs
+equations-append bs cs =
+    ap joined (map-append (λ (b : Block). b .equations) bs cs)
+    ∙ joined-append (map (λ (b : Block). b .equations) bs) (map (λ (b : Block). b .equations) cs)
 
 -- ---- what fits
 
@@ -167,42 +174,6 @@ module _ (out : BlockSet) (q : Block) (r : Room out (q ∷ [])) where
 
   pub room-equations : length (allEquations (blocksOf out)) + length (q .equations) ≤ 1024
   room-equations = omega (arith, r .fits .few-equations, ap length (equations-push (blocksOf out) q), length-append (allEquations (blocksOf out)) (q .equations))
-
--- ---- an equation without cells
-
--- its slots are fillers already
-bare-slots : (es : List BlockEquation) (x : ℕ) → all smallEquation es ≡ true → length es < 1024 → sets (allSlots es) (length es * 8) (joined (map slotsOf (bare x ∷ []))) ≡ allSlots es
-bare-slots es x a h =
-    put-slots-push es a (bare x) h (omega arith)
-    ∙ ap (pad 8192 65535) (joined-push slotsOf es (bare x))
-    ∙ pad-filler 8192 65535 (joined (map slotsOf es)) 8 (omega (arith, length-all-slots es a))
-
-bare-same : (out : BlockSet) (bs : List Block) (x : ℕ) → out ≡ blockSet bs → Small bs → length (allEquations bs) < 1024
-    → sets (out .slots) (length (allEquations bs) * 8) (joined (map slotsOf (bare x ∷ []))) ≡ out .slots
-unfolding blockSet
-bare-same out bs x is s h = rw is (bare-slots (allEquations bs) x (s .small) h)
-
-module _ (out : BlockSet) (x : ℕ) (r : Room out (alone (bare x) ∷ [])) (next last : ℕ)
-    (at : next ≡ beginAt (out .«equation_ends») (out .blocks)) (begin : last ≡ beginAt (out .«cell_ends») (out .blocks)) where
-  pub bare-next : next < 1024
-  bare-next = omega (arith, at, equations-held out (r .held), room-equations out (alone (bare x)) r)
-
-  pub bare-last : last ≤ 1024
-  bare-last = omega (arith, begin, cells-held out (r .held), r .held .fits .few-cells)
-
-  pub put-bare : record {
-    cells = out .cells;
-    «cell_ends» = set (out .«cell_ends») (out .blocks) last;
-    slots = out .slots;
-    rests = set (out .rests) next x;
-    «equation_ends» = set (out .«equation_ends») (out .blocks) (next + 1);
-    blocks = out .blocks + 1;
-  }
-      ≡ blockSet (blocksOf out ++ (alone (bare x) ∷ []))
-  put-bare =
-      let same = bare-same out (blocksOf out) x (r .held .is) (r .held .fits) (omega (arith, room-equations out (alone (bare x)) r)) in
-      let end : length (allCells (blocksOf out)) + 0 ≡ length (allCells (blocksOf out)) = omega arith in
-      rw (at ∙ equations-held out (r .held), begin ∙ cells-held out (r .held)) (rw (end, same) at (put-behind out (alone (bare x)) r))
 
 -- ---- blocks put one after another
 

@@ -1,8 +1,8 @@
--- `chunks::bounds_at` meets its contract: each number is what the function that it calls tells. Assumes nothing.
+-- `blocks::bounds_at` meets its contract: each number is what the function that it calls tells. Assumes nothing.
 use mathlib.Core.Path.{refl}
 use borrow.Author.Needs.{needs}
-use Rattle.chunks.proofs.bounds_at.Statement.{statement}
-use Rattle.chunks.proofs.bounds_at.Tie as tie
+use Rattle.blocks.proofs.bounds_at.Statement.{statement}
+use Rattle.blocks.proofs.bounds_at.Tie as tie
 
 begin-at-requires : tie.Need-begin-at-requires
 begin-at-requires c κs = search needs

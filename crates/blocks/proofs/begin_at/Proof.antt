@@ -1,9 +1,9 @@
--- `chunks::begin_at` meets its contract. Assumes nothing.
+-- `blocks::begin_at` meets its contract. Assumes nothing.
 use mathlib.Core.Path.{_∙_}
-use Rattle.chunks.proofs.Between.{begin-first, begin-later}
+use Rattle.blocks.proofs.Between.{begin-first, begin-later}
 use borrow.Author.Needs.{needs}
-use Rattle.chunks.proofs.begin_at.Statement.{statement}
-use Rattle.chunks.proofs.begin_at.Tie as tie
+use Rattle.blocks.proofs.begin_at.Statement.{statement}
+use Rattle.blocks.proofs.begin_at.Tie as tie
 
 sub-wide : tie.Need-sub-wide
 sub-wide c = search needs

@@ -2,21 +2,19 @@
 -- lists them. Rests on the laws of ranges. Assumes nothing.
 use mathlib.Core.Path.{_≡_, refl, sym, ap, _∙_}
 use mathlib.Core.Bool.{Bool, true, false, cond}
-use mathlib.Core.List.{List, [], _∷_, map, reverse}
+use mathlib.Core.List.{List, [], _∷_, map}
 use Prim.Native.Nat.{ℕ, zero, suc, _+_, _-_, _*_, _≤_, _<_}
 use native.Mathlib.Omega.{arith}
 use lib.Dec.{eqb}
-use lib.ListN.{length, getD, take, drop, length-take, length-reverse}
-use Rattle.lists.specs.Lists.{any, addNew, pad}
-use Rattle.lists.proofs.Arrays.{pad-take, length-pad}
+use lib.ListN.{length, getD, take, drop, length-take}
+use Rattle.lists.specs.Lists.{any}
+use Rattle.lists.proofs.Arrays.{pad-take}
 use Rattle.lists.proofs.Members.{range-more, range-none}
 use Rattle.grid.specs.Window.{listed}
 use Rattle.grid.specs.declared.window.Neighbours.{Neighbours}
 use Rattle.blocks.specs.Blocks.{BlockEquation}
 use Rattle.blocks.specs.BlockSets.{before, slotCells, beginAt}
-use Rattle.chunks.specs.Chunks.{widened}
-use Rattle.chunks.specs.Splitting.{marked, Marks, OnBoard, Slots, cellsFrom, equationsFrom}
-use Rattle.chunks.proofs.Marking.{marks-meets}
+use Rattle.blocks.specs.Places.{marked, OnBoard, Slots, cellsFrom, equationsFrom}
 
 -- ---- cells
 
@@ -57,9 +55,6 @@ pub slots-eight : (slots : List ℕ) (e : ℕ) → length (slotCells slots e) �
 unfolding slotCells
 slots-eight slots e = omega (arith, before-few 65535 (take 8 (drop (e * 8) slots)), length-take 8 (drop (e * 8) slots))
 
-pub slots-turned : (slots : List ℕ) (e : ℕ) → length (pad 8 65535 (reverse (slotCells slots e))) ≡ 8
-slots-turned slots e = length-pad 8 65535 (reverse (slotCells slots e)) (omega (arith, length-reverse (slotCells slots e), slots-eight slots e))
-
 module _ (near : Neighbours) (slots : List ℕ) (e : ℕ) (is : near ≡ listed (slotCells slots e)) where
   pub listed-cells : take (near .len) (near .cells) ≡ slotCells slots e
   listed-cells = rw is (pad-take 8 0 (slotCells slots e))
@@ -70,32 +65,6 @@ module _ (near : Neighbours) (slots : List ℕ) (e : ℕ) (is : near ≡ listed 
   -- a cell of the equation is marked
   pub listed-marked : (marks : List ℕ) (t : Bool) → any (marked marks) (take (near .len) (near .cells)) ≡ t → any (marked marks) (slotCells slots e) ≡ t
   listed-marked marks t h = ap (any (marked marks)) (sym listed-cells) ∙ h
-
-  -- turned round, as the code lists it
-  module _ (back : Neighbours) (is-back : back ≡ listed (reverse (take (near .len) (near .cells)))) where
-    pub back-few : back .len ≤ 8
-    back-few = rw (is-back, listed-cells) (omega (arith, length-reverse (slotCells slots e), slots-eight slots e))
-
-    pub back-cells : take (back .len) (back .cells) ≡ reverse (slotCells slots e)
-    back-cells = rw is-back (pad-take 8 0 (reverse (take (near .len) (near .cells)))) ∙ ap reverse listed-cells
-
-  -- ---- one equation looked at
-
-  module _ (rests marks : List ℕ) (end : ℕ) (h : e < end) where
-    pub look-pass : any (marked marks) (take (near .len) (near .cells)) ≡ false → (l : List ℕ) → Marks marks l
-        → widened (equationsFrom slots rests e end) l ≡ widened (equationsFrom slots rests (e + 1) end) l
-    look-pass t l m =
-        ap (λ (es : List BlockEquation). widened es l) (equations-more slots rests e end h)
-        ∙ ap (λ (x : Bool). widened (equationsFrom slots rests (e + 1) end) (cond x (addNew l (slotCells slots e)) l))
-        (sym (marks-meets m (slotCells slots e)) ∙ ap (any (marked marks)) (sym listed-cells) ∙ t)
-
-    pub look-add : any (marked marks) (take (near .len) (near .cells)) ≡ true → (l : List ℕ) → Marks marks l
-        → widened (equationsFrom slots rests e end) l ≡ widened (equationsFrom slots rests (e + 1) end) (addNew l (take (near .len) (near .cells)))
-    look-add t l m =
-        ap (λ (es : List BlockEquation). widened es l) (equations-more slots rests e end h)
-        ∙ ap (λ (x : Bool). widened (equationsFrom slots rests (e + 1) end) (cond x (addNew l (slotCells slots e)) l))
-        (sym (marks-meets m (slotCells slots e)) ∙ ap (any (marked marks)) (sym listed-cells) ∙ t)
-        ∙ ap (λ (k : List ℕ). widened (equationsFrom slots rests (e + 1) end) (addNew l k)) (sym listed-cells)
 
 -- ---- where a part begins
 

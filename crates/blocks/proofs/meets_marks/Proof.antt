@@ -1,4 +1,4 @@
--- `chunks::meets_marks` meets its contract. The loop's invariant: a cell from place k on is marked exactly if some cell of the list is. The measure is
+-- `blocks::meets_marks` meets its contract. The loop's invariant: a cell from place k on is marked exactly if some cell of the list is. The measure is
 -- what is left of the list. Rests on the laws of counted elements. Assumes nothing.
 use Prim.Native.Nat.{_-_, _≤_}
 use mathlib.Core.Path.{_≡_, refl, sym, ap, _∙_}
@@ -6,11 +6,11 @@ use lib.ListN.{length, take, drop}
 use borrow.Author.Tests.{eq-eqb, ne-eqb}
 use Rattle.lists.specs.Lists.{any}
 use Rattle.lists.proofs.Counted.{counted-none}
-use Rattle.chunks.specs.Splitting.{marked}
-use Rattle.chunks.proofs.Marking.{list-next, list-below, search-here, search-next}
+use Rattle.blocks.specs.Places.{marked}
+use Rattle.blocks.proofs.MarkLaws.{list-next, list-below, search-here, search-next}
 use borrow.Author.Needs.{needs}
-use Rattle.chunks.proofs.meets_marks.Statement.{statement}
-use Rattle.chunks.proofs.meets_marks.Tie as tie
+use Rattle.blocks.proofs.meets_marks.Statement.{statement}
+use Rattle.blocks.proofs.meets_marks.Tie as tie
 
 abbrev Inv-loop : tie.InvT-loop
 Inv-loop marks cells len k₀ k = (k ≤ len) × (any (marked marks) (drop k (take len cells)) ≡ any (marked marks) (take len cells))
