@@ -53,9 +53,13 @@ marks-push marks cells c u h = record { at = λ d. go d (decided (eqb d c)) }
         let same : has (cells ++ (c ∷ [])) d ≡ has cells d = has-append cells (c ∷ []) d ∙ rw e (or-off (has cells d)) in
         getD-set-other marks c d 1 0 (eqb-false d c e) ∙ h .at d ∙ sym (ap bit same)
 
+-- nothing is marked
+pub marks-none : (n : ℕ) → Marks (replicate n 0) []
+marks-none n = record { at = λ c. replicate-all (λ i x. x ≡ 0) n 0 0 (λ i u. refl) (λ i u. refl) c }
+
 -- the first mark
 pub marks-first : (n c : ℕ) → c < n → Marks (set (replicate n 0) c 1) (c ∷ [])
-marks-first n c h = marks-push (replicate n 0) [] c (omega (arith, length-replicate {A = ℕ} n 0)) (record { at = λ d. replicate-all (λ i x. x ≡ 0) n 0 0 (λ i u. refl) (λ i u. refl) d })
+marks-first n c h = marks-push (replicate n 0) [] c (omega (arith, length-replicate {A = ℕ} n 0)) (marks-none n)
 
 -- as a test
 pub marked-set : (marks : List ℕ) (c d : ℕ) → c < length marks → marked (set marks c 1) d ≡ (eqb d c || marked marks d)

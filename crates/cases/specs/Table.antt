@@ -11,6 +11,10 @@ use Rattle.refusals.specs.Refusals.{testedNumber}
 use Rattle.refusals.specs.Tests.{boardTested, positionTested}
 use Rattle.blocks.specs.Blocks.{BlockEquation, Block}
 use Rattle.frontier.specs.Frontier.{frontier, insideCells, knownMines}
+use Rattle.rules.specs.Found.{Found}
+use Rattle.rules.specs.Direct.{direct}
+use Rattle.rules.specs.Minus.{subtraction}
+use Rattle.rules.specs.Answers.{Seen, deduction}
 use Rattle.fitting.specs.Solver.{ask, solved}
 use Rattle.fitting.specs.Demand.{opened}
 use Rattle.fitting.specs.Passes.{allOpen}
@@ -23,6 +27,10 @@ pub data Case : Type 0 where
   position-tested : (rows columns : ℕ) → List ℕ → ℕ → Case
   -- the frontier of a position: its blocks, its inside cells and its known mines
   frontier-read : (rows columns : ℕ) → List ℕ → List Block → (inside known : ℕ) → Case
+  -- a rule called on a position: its safe cells and mines, the position after, and the blocks left
+  deduced : (rule : List Block → Found) → (rows columns : ℕ) → List ℕ → (safe mines after : List ℕ) → List Block → Case
+  -- or refusal 6, which leaves the position
+  contradictory : (rule : List Block → Found) → (rows columns : ℕ) → List ℕ → Case
   -- the solver of demand 3 on a board, from the cell s: its position when it is done, its open cells, and whether they are all the safe ones
   solver : (rows columns s : ℕ) → List ℕ → List ℕ → ℕ → Bool → Case
 
@@ -55,6 +63,14 @@ equation n cells = record { cells = cells; rest = 8 + n }
 abbrev negative : ℕ → List ℕ → BlockEquation
 negative n cells = record { cells = cells; rest = 8 - n }
 
+-- what the caller of a rule sees, lent lists as long as the position
+abbrev called : (List Block → Found) → ℕ → ℕ → List ℕ → Seen
+called rule rows columns p = deduction rule rows columns p (replicate (length p) 0) (replicate (length p) 0)
+
+-- a list holds these cells, and 0 behind them
+abbrev listHolds : List ℕ → ℕ → List ℕ → Bool
+listHolds slice n cells = eqb n (length cells) && same slice (cells ++ replicate (length slice - n) 0)
+
 -- the line holds
 unfoldable pub holds : Case → Bool
 holds (board-tested rows columns row column b n) = eqb (testedNumber (boardTested rows columns row column b (rows * columns))) n
@@ -62,22 +78,46 @@ holds (position-tested rows columns p n) = eqb (testedNumber (positionTested row
 holds (frontier-read rows columns p bs inside known) =
     sameBy sameBlock (frontier (neighbours rows columns) p) bs
     && (eqb (insideCells (neighbours rows columns) p) inside && eqb (knownMines p) known)
+holds (deduced rule rows columns p safe mines after left) =
+    (eqb (testedNumber (called rule rows columns p .answer .tested)) 0 && same (called rule rows columns p .position) after)
+    && (listHolds (called rule rows columns p .safe) (called rule rows columns p .answer .safe) safe
+    && (listHolds (called rule rows columns p .mines) (called rule rows columns p .answer .mines) mines
+    && sameBy sameBlock (rule (frontier (neighbours rows columns) p) .left) left))
+holds (contradictory rule rows columns p) =
+    eqb (testedNumber (called rule rows columns p .answer .tested)) 6
+    && (same (called rule rows columns p .position) p
+    && (listHolds (called rule rows columns p .safe) (called rule rows columns p .answer .safe) []
+    && listHolds (called rule rows columns p .mines) (called rule rows columns p .answer .mines) []))
 holds (solver rows columns s b p n all) = endsWith rows columns s b p && (eqb (opened p) n && Bool·beq (allOpen b p) all)
 
 unfoldable pub table : List Case
 table =
     -- 1. position `1 10 10`: inside cells 1
     frontier-read 1 3 (1 ∷ 10 ∷ 10 ∷ []) (block (1 ∷ []) (equation 1 (1 ∷ []) ∷ []) ∷ []) 1 0
-    -- 3. `11 0 10`: remainder -1
+    -- direct finds mine 1
+    ∷ deduced direct 1 3 (1 ∷ 10 ∷ 10 ∷ []) [] (1 ∷ []) (1 ∷ 11 ∷ 10 ∷ []) []
+    ∷ deduced subtraction 1 3 (1 ∷ 10 ∷ 10 ∷ []) [] (1 ∷ []) (1 ∷ 11 ∷ 10 ∷ []) []
+    -- 2. `0 10`: direct finds safe 1
+    ∷ deduced direct 1 2 (0 ∷ 10 ∷ []) (1 ∷ []) [] (0 ∷ 12 ∷ []) []
+    ∷ deduced subtraction 1 2 (0 ∷ 10 ∷ []) (1 ∷ []) [] (0 ∷ 12 ∷ []) []
+    -- 3. `11 0 10`: remainder -1; direct refuses 6, and so does the direct pass of subtraction
     ∷ frontier-read 1 3 (11 ∷ 0 ∷ 10 ∷ []) (block (2 ∷ []) (negative 1 (2 ∷ []) ∷ []) ∷ []) 0 1
-    -- 4. `10 1 10`: one equation over both cells
+    ∷ contradictory direct 1 3 (11 ∷ 0 ∷ 10 ∷ [])
+    ∷ contradictory subtraction 1 3 (11 ∷ 0 ∷ 10 ∷ [])
+    -- 4. `10 1 10`: one equation over both cells; no rule finds a cell
     ∷ frontier-read 1 3 (10 ∷ 1 ∷ 10 ∷ []) (block (0 ∷ 2 ∷ []) (equation 1 (0 ∷ 2 ∷ []) ∷ []) ∷ []) 0 0
+    ∷ deduced direct 1 3 (10 ∷ 1 ∷ 10 ∷ []) [] [] (10 ∷ 1 ∷ 10 ∷ []) (block (2 ∷ 0 ∷ []) (equation 1 (2 ∷ 0 ∷ []) ∷ []) ∷ [])
+    ∷ deduced subtraction 1 3 (10 ∷ 1 ∷ 10 ∷ []) [] [] (10 ∷ 1 ∷ 10 ∷ []) (block (0 ∷ 2 ∷ []) (equation 1 (0 ∷ 2 ∷ []) ∷ []) ∷ [])
     -- 5. `10 1 10 1 10`: two equations that share a cell
     ∷ frontier-read 1 5 (10 ∷ 1 ∷ 10 ∷ 1 ∷ 10 ∷ [])
     (block (0 ∷ 2 ∷ 4 ∷ []) (equation 1 (0 ∷ 2 ∷ []) ∷ equation 1 (2 ∷ 4 ∷ []) ∷ []) ∷ []) 0 0
     -- 6. `10 10 10 / 1 1 1`: three equations, the others found from the last to the second
     ∷ frontier-read 2 3 (10 ∷ 10 ∷ 10 ∷ 1 ∷ 1 ∷ 1 ∷ [])
     (block (0 ∷ 1 ∷ 2 ∷ []) (equation 1 (0 ∷ 1 ∷ []) ∷ equation 1 (1 ∷ 2 ∷ []) ∷ equation 1 (0 ∷ 1 ∷ 2 ∷ []) ∷ []) ∷ []) 0 0
+    -- direct finds nothing; subtraction gives safe 0, 2 and mine 1
+    ∷ deduced direct 2 3 (10 ∷ 10 ∷ 10 ∷ 1 ∷ 1 ∷ 1 ∷ []) [] [] (10 ∷ 10 ∷ 10 ∷ 1 ∷ 1 ∷ 1 ∷ [])
+    (block (2 ∷ 1 ∷ 0 ∷ []) (equation 1 (2 ∷ 1 ∷ 0 ∷ []) ∷ equation 1 (2 ∷ 1 ∷ []) ∷ equation 1 (1 ∷ 0 ∷ []) ∷ []) ∷ [])
+    ∷ deduced subtraction 2 3 (10 ∷ 10 ∷ 10 ∷ 1 ∷ 1 ∷ 1 ∷ []) (0 ∷ 2 ∷ []) (1 ∷ []) (12 ∷ 11 ∷ 12 ∷ 1 ∷ 1 ∷ 1 ∷ []) []
     -- 8. board `0`, start 0,0: 1 opened, all
     ∷ solver 1 1 0 (0 ∷ []) (0 ∷ []) 1 true
     -- 9. 3 × 3, all mines but 0,0, start 0,0: 1 opened, all

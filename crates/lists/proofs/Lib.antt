@@ -15,6 +15,11 @@ pub mod CountsAlike
 pub mod Backwards
 pub mod Sharing
 pub mod Joined
+-- elements of any type: where a test passes, lists among others, lists turned round, lists of elements one after another
+pub mod PassingElements
+pub mod Among
+pub mod TurnedRound
+pub mod ListsOfElements
 -- arrays with a count, and loops over a list
 pub mod Arrays
 pub mod Counted
@@ -23,3 +28,5 @@ pub mod Stores
 pub mod Rotated
 pub mod Storing
 pub mod Loops
+pub mod StoredAndKept
+pub mod ReadBack

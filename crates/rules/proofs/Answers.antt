@@ -7,7 +7,7 @@ use Prim.Native.Nat.{ℕ}
 use Rattle.lists.specs.Lists.{keep, any, has}
 use Rattle.lists.proofs.Tests.{and-right}
 use Rattle.lists.proofs.Unions.{has-joined-map}
-use Rattle.rules.proofs.PassingElements.{any-mem, any-reverse, Each, each-kept, each-mapped, each-joined, joined-each}
+use Rattle.lists.proofs.PassingElements.{any-mem, any-reverse, Each, each-kept, each-mapped, each-joined, joined-each}
 use Rattle.blocks.specs.Blocks.{BlockEquation, Block}
 use Rattle.blocks.specs.BlockSets.{allEquations}
 use Rattle.rules.specs.Found.{contradicted, found}

@@ -15,8 +15,8 @@ use Rattle.lists.proofs.Members.{kept-passes, kept-has, has-kept, nodup-append}
 use Rattle.lists.proofs.Counts.{count-append}
 use Rattle.lists.proofs.Rearranged.{rearranged-has, reverse-rearranged}
 use Rattle.lists.proofs.Unions.{append-cases, has-joined-map, has-addNew, nodup-addNew}
-use Rattle.rules.proofs.PassingElements.{not-passes, any-mem, mem-any, any-none, any-keep, mem-kept, kept-mem, each-kept}
-use Rattle.rules.proofs.Among.{Among, nodup-among, joined-reverse, joined-among, joined-both}
+use Rattle.lists.proofs.PassingElements.{not-passes, any-mem, mem-any, any-none, any-keep, mem-kept, kept-mem, each-kept}
+use Rattle.lists.proofs.Among.{Among, nodup-among, joined-reverse, joined-among, joined-both}
 use Rattle.blocks.specs.Blocks.{BlockEquation, Block}
 use Rattle.blocks.specs.BlockSets.{allCells, allEquations}
 use Rattle.blocks.proofs.Saying.{says-all-mines, says-all-free}

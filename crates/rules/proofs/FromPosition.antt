@@ -16,7 +16,7 @@ use Rattle.lists.proofs.Tests.{same-test, and-left, and-right}
 use Rattle.lists.proofs.Members.{has-not-empty}
 use Rattle.lists.proofs.Counts.{count-le, count-ext, any-at, any-of}
 use Rattle.lists.proofs.Unions.{mem-has, has-mem}
-use Rattle.rules.proofs.PassingElements.{any-ext, any-map}
+use Rattle.lists.proofs.PassingElements.{any-ext, any-map}
 use Rattle.grid.specs.Cells.{shows}
 use Rattle.fitting.specs.Equations.{isKnownMine}
 use Rattle.blocks.specs.Blocks.{BlockEquation}

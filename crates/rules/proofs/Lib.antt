@@ -1,7 +1,4 @@
 -- The laws of the two rules, in reading order.
--- general laws of lists: elements that pass a test, and lists of which another has no fewer
-pub mod PassingElements
-pub mod Among
 -- what the rules rest on, and the two rules on blocks
 pub mod TakenOut
 pub mod Answers
@@ -12,3 +9,32 @@ pub mod Soundness
 -- what the direct rule finds does not depend on its order
 pub mod OrderFree
 pub mod FromPosition
+-- what the functions rest on: cells marked, and listed by their marks
+pub mod MarkedCells
+pub mod ByMarks
+-- what is left of equations, of a block put behind others, and of all blocks of a set
+pub mod LeftEquations
+pub mod LeftBehind
+pub mod WhatIsLeft
+pub mod LeftInSet
+-- what the functions of the direct rule do: cells listed, the two sweeps, and all blocks at once
+pub mod ListedCells
+pub mod Sweeps
+pub mod WholeSets
+pub mod AllBlocks
+pub mod LeftByMarks
+pub mod DirectAnswer
+-- and those of subtraction: pairs of equations, what is marked, and the struct
+pub mod SetPlaces
+pub mod SmallerBlocks
+pub mod ReadyBlocks
+pub mod MarkedSoFar
+pub mod Pairs
+pub mod MinusMarks
+pub mod MinusAnswer
+-- calls on a position: what they are told, what they hand on and what they write
+pub mod FrontierReady
+pub mod Handed
+pub mod WrittenCells
+pub mod Deductions
+pub mod SoundCalls

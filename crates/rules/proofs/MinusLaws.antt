@@ -15,8 +15,8 @@ use Rattle.lists.proofs.Tests.{Decided, decided, clash, and-left, and-right, or
 use Rattle.lists.proofs.Members.{kept-passes, has-kept}
 use Rattle.lists.proofs.Counts.{count-append}
 use Rattle.lists.proofs.Unions.{append-cases}
-use Rattle.rules.proofs.PassingElements.{any-mem, each-kept, each-mapped}
-use Rattle.rules.proofs.Among.{Among, among-left, among-right, keep-both-among, joined-reverse, joined-keep-among, joined-among, joined-both}
+use Rattle.lists.proofs.PassingElements.{any-mem, each-kept, each-mapped}
+use Rattle.lists.proofs.Among.{Among, among-left, among-right, keep-both-among, joined-reverse, joined-keep-among, joined-among, joined-both}
 use Rattle.fitting.proofs.Equations.{Exceeds, subtract-mines, subtract-safe}
 use Rattle.blocks.specs.Blocks.{BlockEquation, Block, says}
 use Rattle.blocks.specs.BlockSets.{allCells, allEquations}
@@ -201,7 +201,7 @@ module _ (bs : List Block) where
       append-cases (fromLast minusSafe bs) (direct (minusBlocks bs) .safe) c (unless-has (subtraction bs .contradiction) _ c (rw subtraction-safe at h))
 
   -- a list of each block that leaves its other cells, with some cells of the blocks left, is some of the cells, each at most as often
-  listed-among : (g : Block → List ℕ) (later : List ℕ) (t : Bool) → ((b : Block) → Among (g b ++ minusLeft b .cells) (b .cells))
+  pub listed-among : (g : Block → List ℕ) (later : List ℕ) (t : Bool) → ((b : Block) → Among (g b ++ minusLeft b .cells) (b .cells))
       → Among later (allCells (minusBlocks bs)) → Among (cond t [] (fromLast g bs ++ later)) (allCells bs)
   listed-among g later true part after f = omega arith
   listed-among g later false part after f =

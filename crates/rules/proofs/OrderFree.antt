@@ -15,8 +15,8 @@ use Rattle.lists.proofs.Tests.{Decided, decided, same-test, and-left, and-right
 use Rattle.lists.proofs.Members.{has-keep}
 use Rattle.lists.proofs.Counts.{count-ext}
 use Rattle.lists.proofs.Rearranged.{Rearranged, rearranged-length, rearranged-has}
-use Rattle.rules.proofs.PassingElements.{not-passes, any-mem, mem-any, any-ext, any-none, any-keep, any-map, any-joined-map}
-use Rattle.rules.proofs.Among.{joined-once}
+use Rattle.lists.proofs.PassingElements.{not-passes, any-mem, mem-any, any-ext, any-none, any-keep, any-map, any-joined-map}
+use Rattle.lists.proofs.Among.{joined-once}
 use Rattle.blocks.specs.Blocks.{BlockEquation, Block}
 use Rattle.blocks.specs.BlockSets.{allCells, allEquations}
 use Rattle.frontier.proofs.BlockLaws.{block-equation, equation-block, Proper}

@@ -13,7 +13,7 @@ use Rattle.lists.specs.Lists.{keep, count, has, nodup}
 use Rattle.lists.proofs.Tests.{Decided, decided, clash}
 use Rattle.lists.proofs.Counts.{length-keep}
 use Rattle.lists.proofs.Rearranged.{rearranged-length}
-use Rattle.rules.proofs.Among.{Among, among-length, among-has, among-nodup, among-left, among-right, keep-both-among}
+use Rattle.lists.proofs.Among.{Among, among-length, among-has, among-nodup, among-left, among-right, keep-both-among}
 use Rattle.grid.specs.Cells.{shows}
 use Rattle.fitting.specs.Layouts.{mineAt, Fits, Forced}
 use Rattle.fitting.specs.Equations.{isClosed, isKnownMine}

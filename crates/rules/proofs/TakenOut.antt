@@ -15,7 +15,7 @@ use Rattle.lists.proofs.Tests.{same-test, or-false-left, or-false-right}
 use Rattle.lists.proofs.Members.{kept-passes, kept-has, has-kept, nodup-keep}
 use Rattle.lists.proofs.Counts.{count-ext, count-zero, count-split, length-keep}
 use Rattle.lists.proofs.Rearranged.{count-all}
-use Rattle.rules.proofs.PassingElements.{any-none, Each, each-mapped}
+use Rattle.lists.proofs.PassingElements.{any-none, Each, each-mapped}
 use Rattle.fitting.specs.Equations.{Holds}
 use Rattle.blocks.specs.Blocks.{BlockEquation, Block, says}
 use Rattle.frontier.proofs.BlockLaws.{Proper}

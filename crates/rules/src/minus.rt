@@ -1,0 +1,162 @@
+// solve_minus on a block set. Of two equations that share a cell, where the one has as many own cells as it has mines more, these are mines and the other's
+// own cells are safe. All ordered pairs of a block's equations are looked at before a cell is taken out; an equation beside itself has no own cells and
+// marks none. Then the direct rule runs on what is left.
+use super::answer::RuleAnswer;
+use super::direct::direct_rule;
+use super::left::left_blocks;
+use super::listing::list_blocks;
+use super::listing::put_list;
+use super::marks::count_marked;
+use super::marks::mark_own;
+use super::marks::marked_in_one;
+use super::marks::marks_of;
+use blocks::BlockSet;
+use blocks::begin_at;
+use blocks::slots_at;
+use chunks::chunk_matrixes;
+use grid::window::wide;
+ghost use mathlib.Core.Path.{_≡_};
+ghost use mathlib.Core.Bool.{_&&_, _||_};
+ghost use Prim.Native.Nat.{ℕ, _≤_, _<_};
+ghost use lib.ListN.{length, getD};
+ghost use Rattle.lists.specs.Lists.{range, any, has};
+ghost use Rattle.blocks.specs.Blocks.{BlockEquation};
+ghost use Rattle.blocks.specs.BlockSets.{blocksOf, beginAt, Whole};
+ghost use Rattle.blocks.specs.Places.{marked, Slots, equationsFrom};
+ghost use Rattle.rules.specs.Minus.{ownCells, somePair, subtraction};
+ghost use Rattle.rules.specs.Marked.{Ready, Once, equationIn, someOther};
+ghost use Rattle.rules.specs.Answers.{ruleAnswer};
+
+// A remainder plus 8, as wide as a count.
+fn wide_rest(rest: u8) -> usize
+    ensures { λ r. ⌜ (r ≡ rest) × (r < 256) ⌝ }
+{
+    rest as usize
+}
+
+// Holds one equation against each of its block: marks the mines and the safe cells that follow.
+fn subtract_from(
+    slots: &[u16; 8192],
+    rests: &[u8; 1024],
+    first: usize,
+    end: usize,
+    e: usize,
+    mines: &mut [u8; 1024],
+    safe: &mut [u8; 1024],
+)
+    requires { ⌜ Slots (now slots) end × Once (now slots) end ⌝ }
+    requires { ⌜ e < end ⌝ }
+    requires { ⌜ (length (now mines) ≡ 1024) × (length (now safe) ≡ 1024) ⌝ }
+    ensures { λ _. ⌜ (length (now (mines .exit)) ≡ 1024) × (length (now (safe .exit)) ≡ 1024) ⌝ }
+    ensures { λ _. ⌜ ((d : ℕ) → marked (now (mines .exit)) d ≡ (marked (now (mines .entry)) d
+        || someOther (λ (x : BlockEquation). λ (y : BlockEquation). has (ownCells x y) d) (equationIn (now (slots .entry)) (now (rests .entry)) e) (equationsFrom (now (slots .entry)) (now (rests .entry)) first end))) ⌝ }
+    ensures { λ _. ⌜ ((d : ℕ) → marked (now (safe .exit)) d ≡ (marked (now (safe .entry)) d
+        || someOther (λ (x : BlockEquation). λ (y : BlockEquation). has (ownCells y x) d) (equationIn (now (slots .entry)) (now (rests .entry)) e) (equationsFrom (now (slots .entry)) (now (rests .entry)) first end))) ⌝ }
+{
+    let list = slots_at(slots, e);
+    let len = list.len;
+    let own = marks_of(list);
+    let rest = wide_rest(rests[e]);
+    for f in first..end {
+        let other = slots_at(slots, f);
+        let shared = count_marked(&own, other);
+        if 0 < shared {
+            if rest + shared == wide_rest(rests[f]) + len {
+                mark_own(list, other, mines);
+                mark_own(other, list, safe);
+            }
+        }
+    }
+}
+
+// All ordered pairs of equations between two places.
+fn subtract_pairs(
+    slots: &[u16; 8192],
+    rests: &[u8; 1024],
+    first: usize,
+    end: usize,
+    mines: &mut [u8; 1024],
+    safe: &mut [u8; 1024],
+)
+    requires { ⌜ Slots (now slots) end × Once (now slots) end ⌝ }
+    requires { ⌜ (length (now mines) ≡ 1024) × (length (now safe) ≡ 1024) ⌝ }
+    ensures { λ _. ⌜ (length (now (mines .exit)) ≡ 1024) × (length (now (safe .exit)) ≡ 1024) ⌝ }
+    ensures { λ _. ⌜ ((d : ℕ) → marked (now (mines .exit)) d ≡ (marked (now (mines .entry)) d
+        || somePair (λ (x : BlockEquation). λ (y : BlockEquation). has (ownCells x y) d) (equationsFrom (now (slots .entry)) (now (rests .entry)) first end))) ⌝ }
+    ensures { λ _. ⌜ ((d : ℕ) → marked (now (safe .exit)) d ≡ (marked (now (safe .entry)) d
+        || somePair (λ (x : BlockEquation). λ (y : BlockEquation). has (ownCells y x) d) (equationsFrom (now (slots .entry)) (now (rests .entry)) first end))) ⌝ }
+{
+    for e in first..end {
+        subtract_from(slots, rests, first, end, e, mines, safe);
+    }
+}
+
+// The pairs of each block.
+fn subtract_blocks(
+    slots: &[u16; 8192],
+    rests: &[u8; 1024],
+    ends: &[u16; 1024],
+    blocks: usize,
+    mines: &mut [u8; 1024],
+    safe: &mut [u8; 1024],
+)
+    requires { ⌜ blocks ≤ 1024 ⌝ }
+    requires { ⌜ ((b : ℕ) → b < blocks → Slots (now slots) (getD (now ends) b 0) × Once (now slots) (getD (now ends) b 0)) ⌝ }
+    requires { ⌜ (length (now mines) ≡ 1024) × (length (now safe) ≡ 1024) ⌝ }
+    ensures { λ _. ⌜ (length (now (mines .exit)) ≡ 1024) × (length (now (safe .exit)) ≡ 1024) ⌝ }
+    ensures { λ _. ⌜ ((d : ℕ) → marked (now (mines .exit)) d ≡ (marked (now (mines .entry)) d
+        || any (λ (b : ℕ). somePair (λ (x : BlockEquation). λ (y : BlockEquation). has (ownCells x y) d) (equationsFrom (now (slots .entry)) (now (rests .entry)) (beginAt (now (ends .entry)) b) (getD (now (ends .entry)) b 0))) (range 0 blocks))) ⌝ }
+    ensures { λ _. ⌜ ((d : ℕ) → marked (now (safe .exit)) d ≡ (marked (now (safe .entry)) d
+        || any (λ (b : ℕ). somePair (λ (x : BlockEquation). λ (y : BlockEquation). has (ownCells y x) d) (equationsFrom (now (slots .entry)) (now (rests .entry)) (beginAt (now (ends .entry)) b) (getD (now (ends .entry)) b 0))) (range 0 blocks))) ⌝ }
+{
+    for b in 0..blocks {
+        let first = begin_at(ends, b);
+        subtract_pairs(slots, rests, first, wide(ends[b]), mines, safe);
+    }
+}
+
+// solve_minus on blocks: its own lists, then those of the direct rule on what is left, and the blocks that this leaves, split once more.
+pub fn minus_rule(set: BlockSet) -> RuleAnswer
+    requires { ⌜ Whole set ⌝ }
+    requires { ⌜ Ready (blocksOf set) ⌝ }
+    ensures { λ r. ⌜ r ≡ ruleAnswer (subtraction (blocksOf set)) ⌝ }
+    ensures { λ r. ⌜ Whole (r .left) ⌝ }
+{
+    let mut mine_marks = [0u8; 1024];
+    let mut safe_marks = [0u8; 1024];
+    let slots = set.slots;
+    let rests = set.rests;
+    let ends = set.equation_ends;
+    let blocks = set.blocks;
+    subtract_blocks(
+        &slots,
+        &rests,
+        &ends,
+        blocks,
+        &mut mine_marks,
+        &mut safe_marks,
+    );
+    let mut mines = [0u16; 1024];
+    let mut safe = [0u16; 1024];
+    let cells = set.cells;
+    let cell_ends = set.cell_ends;
+    let own_mines = list_blocks(&cells, &cell_ends, blocks, &mine_marks, &mut mines);
+    let own_safe = list_blocks(&cells, &cell_ends, blocks, &safe_marks, &mut safe);
+    let known = marked_in_one(&mine_marks, &safe_marks);
+    let rule = direct_rule(left_blocks(set, &mine_marks, &known, true));
+    if rule.contradiction {
+        return rule;
+    }
+    let more_mines = rule.mines;
+    let more_safe = rule.safe;
+    put_list(&more_mines, rule.mine_count, &mut mines, own_mines);
+    put_list(&more_safe, rule.safe_count, &mut safe, own_safe);
+    RuleAnswer {
+        contradiction: false,
+        safe,
+        safe_count: own_safe + rule.safe_count,
+        mines,
+        mine_count: own_mines + rule.mine_count,
+        left: chunk_matrixes(rule.left),
+    }
+}
