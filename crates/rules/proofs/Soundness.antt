@@ -25,7 +25,7 @@ use Rattle.frontier.specs.Frontier.{closedBeside, equationOf, cellsMet, frontie
 use Rattle.frontier.proofs.BlockLaws.{equation-rearranged, frontier-proper, Origin, equation-origin}
 use Rattle.frontier.proofs.Coverage.{frontier-closed, frontier-once, frontier-size}
 use Rattle.frontier.proofs.Fitting.{fits-solves}
-use Rattle.rules.specs.Found.{Found}
+use Rattle.rules.specs.Found.{Found, ruleOf}
 use Rattle.rules.specs.Direct.{direct}
 use Rattle.rules.specs.Minus.{subtraction}
 use Rattle.rules.proofs.TakenOut.{RestsCover}
@@ -64,11 +64,7 @@ listed-apart near p answer sound m fit c h = go (decided (has (answer .safe) c))
     go (inl k) = clash (mineAt m c) (sound .mines-mined c h m fit) (sound .safe-free c k m fit)
     go (inr k) = k
 
--- a rule on blocks as a rule at a position, with its grade
-abbrev pub ruleOf : (ℕ → List ℕ) → (List Block → Found) → ℕ → List ℕ → RuleFound
-ruleOf near rule grade p = record { safe = rule (frontier near p) .safe; mines = rule (frontier near p) .mines; grade = grade }
-
--- it is sound on every board where its answers are
+-- a rule at a position is sound on every board where its answers are
 pub rule-sound : (near : ℕ → List ℕ) (rule : List Block → Found) (grade : ℕ) → ((p : List ℕ) → SoundAt near p (rule (frontier near p)))
     → (b : List ℕ) → Sound near b (ruleOf near rule grade)
 rule-sound near rule grade sound b = record {
