@@ -5,9 +5,20 @@ use std::time::Instant;
 include!("../oracle/shim.rs");
 
 type Grid = Vec<Vec<i32>>;
+type Cells = Vec<(usize, usize)>;
+
+/// A rule of the Rust, and the call of ours that reads the frontier and applies it.
+type Rule = fn(&mut Vec<Vec<Vec<i32>>>, &mut Vec<Cells>, &mut Vec<Vec<i32>>, &mut Grid) -> Result<(Cells, Cells), usize>;
+type Call = unsafe extern "C" fn(usize, usize, *mut u8, usize, *mut u16, usize, *mut u16, usize) -> u64;
 
 extern "C" {
     fn frontier_blocks(rows: usize, columns: usize, position: *const u8, length: usize) -> usize;
+    fn direct_cells(
+        rows: usize, columns: usize, position: *mut u8, length: usize, safe: *mut u16, safe_length: usize, mines: *mut u16, mines_length: usize,
+    ) -> u64;
+    fn minus_cells(
+        rows: usize, columns: usize, position: *mut u8, length: usize, safe: *mut u16, safe_length: usize, mines: *mut u16, mines_length: usize,
+    ) -> u64;
 }
 
 /// A small generator of its own, so that a seed gives the same boards everywhere.
@@ -64,6 +75,40 @@ fn played(board: &Grid, start: (usize, usize), out: &mut Vec<Grid>) {
     }
 }
 
+/// What the Rust's rule finds in a fresh frontier of a copy of the position, counted as our call counts it.
+fn rust_counts(rule: Rule, position: &Grid) -> u64 {
+    let mut g = position.clone();
+    let (mut a, mut x, mut b, _, _) = refresh_matrixs(&g);
+    match rule(&mut a, &mut x, &mut b, &mut g) {
+        Ok((safe, mines)) => 65536 * mines.len() as u64 + safe.len() as u64,
+        Err(refusal) => 4294967296 * refusal as u64,
+    }
+}
+
+/// What our call finds in a copy of the position.
+fn our_counts(call: Call, rows: usize, columns: usize, position: &[u8], safe: &mut [u16], mines: &mut [u16]) -> u64 {
+    let mut p = position.to_vec();
+    unsafe { call(rows, columns, p.as_mut_ptr(), p.len(), safe.as_mut_ptr(), safe.len(), mines.as_mut_ptr(), mines.len()) }
+}
+
+/// Runs both on each position, in turns of a hundred, so that whatever else the machine does meets both; sees that their answers are equal, and prints the
+/// mean time of each.
+fn compare<T: PartialEq + std::fmt::Debug>(name: &str, round: usize, count: usize, rust: impl Fn(usize) -> T, mut ours: impl FnMut(usize) -> T) {
+    let (mut rust_time, mut our_time) = (0.0, 0.0);
+    for first in (0..count).step_by(100) {
+        let turn = first..min(first + 100, count);
+        let t = Instant::now();
+        let from_rust: Vec<T> = turn.clone().map(&rust).collect();
+        rust_time += t.elapsed().as_secs_f64();
+        let t = Instant::now();
+        let from_ours: Vec<T> = turn.map(&mut ours).collect();
+        our_time += t.elapsed().as_secs_f64();
+        assert_eq!(from_rust, from_ours, "the counts of {} differ", name);
+    }
+    let each = 1e6 / count as f64;
+    println!("{}, round {}: rust {:.2} us, ours {:.2} us, ratio {:.2}", name, round, rust_time * each, our_time * each, rust_time / our_time);
+}
+
 fn main() {
     let (rows, columns, mines, games) = (16, 30, 99, 300);
     let mut random = Random(20261115);
@@ -75,22 +120,17 @@ fn main() {
         }
     }
     let bytes: Vec<Vec<u8>> = positions.iter().map(|g| g.iter().flatten().map(|&v| v as u8).collect()).collect();
-    println!("{} positions of {} x {} with {} mines", positions.len(), rows, columns, mines);
-    for round in 0..3 {
-        let t = Instant::now();
-        let rust: Vec<usize> = positions.iter().map(|g| refresh_matrixs(g).1.len()).collect();
-        let rust_time = t.elapsed().as_secs_f64();
-        let t = Instant::now();
-        let ours: Vec<usize> =
-            bytes.iter().map(|p| unsafe { frontier_blocks(rows, columns, p.as_ptr(), p.len()) }).collect();
-        let our_time = t.elapsed().as_secs_f64();
-        assert_eq!(rust, ours, "the block counts differ");
-        println!(
-            "frontier, round {}: rust {:.2} us, ours {:.2} us, ratio {:.2}",
-            round + 1,
-            rust_time * 1e6 / positions.len() as f64,
-            our_time * 1e6 / positions.len() as f64,
-            rust_time / our_time
-        );
+    let count = positions.len();
+    println!("{} positions of {} x {} with {} mines", count, rows, columns, mines);
+    let frontier = |p: &[u8]| unsafe { frontier_blocks(rows, columns, p.as_ptr(), p.len()) };
+    for round in 1..=3 {
+        compare("frontier", round, count, |k| refresh_matrixs(&positions[k]).1.len(), |k| frontier(&bytes[k]));
+    }
+    let (mut safe, mut mined) = (vec![0u16; rows * columns], vec![0u16; rows * columns]);
+    for (name, rule, call) in [("direct", solve_direct as Rule, direct_cells as Call), ("minus", solve_minus as Rule, minus_cells as Call)] {
+        for round in 1..=3 {
+            let ours = |k: usize| our_counts(call, rows, columns, &bytes[k], &mut safe, &mut mined);
+            compare(name, round, count, |k| rust_counts(rule, &positions[k]), ours);
+        }
     }
 }

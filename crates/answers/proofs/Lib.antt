@@ -1,5 +1,5 @@
 -- The laws of lines of numbers, and of the answer to one.
 pub mod Words
 pub mod CellsSoFar
-pub mod WholeBlocks
+pub mod ReadableAnswers
 pub mod AnswerWritten

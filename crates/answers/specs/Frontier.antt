@@ -13,14 +13,7 @@ use Rattle.text.specs.Text.{decimal}
 use Rattle.show.specs.Blocks.{blocksText}
 use Rattle.answers.specs.declared.lines.Line.{Line}
 use Rattle.answers.specs.Lines.{lineOf}
-
--- `unreadable`
-abbrev pub unreadableText : List ℕ
-unreadableText = 117 ∷ 110 ∷ 114 ∷ 101 ∷ 97 ∷ 100 ∷ 97 ∷ 98 ∷ 108 ∷ 101 ∷ []
-
--- `refused 2`
-abbrev pub refusedText : ℕ → List ℕ
-refusedText n = (114 ∷ 101 ∷ 102 ∷ 117 ∷ 115 ∷ 101 ∷ 100 ∷ 32 ∷ []) ++ decimal n
+use Rattle.answers.specs.Texts.{unreadableText, refusedText}
 
 -- `inside 1 mines 0 blocks 1 [1 | 1=1]`
 abbrev pub frontierText : Tested → FrontierAnswer → List ℕ

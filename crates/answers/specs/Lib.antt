@@ -1,3 +1,6 @@
 -- What each call answers to a line of numbers, as a line of text.
 pub mod Lines
+pub mod Texts
 pub mod Frontier
+pub mod Deductions
+pub mod Calls

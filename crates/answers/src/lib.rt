@@ -1,18 +1,31 @@
 // What each call answers to a line of numbers, as a line of text in a lent buffer: the text of the oracle, so that a comparison is a `diff`.
+pub mod deductions;
 pub mod lines;
 
+use deductions::Rule;
+use deductions::call_rule;
+use deductions::put_deduction;
+use deductions::put_refused;
 use frontier::refresh_matrixs;
 use lines::read_line;
 use refusals::Tested;
-use refusals::refusal_number;
 use show::put_blocks;
 use text::put_bytes;
 use text::put_number;
 ghost use Rattle.text.specs.Text.{Written};
 ghost use Rattle.answers.specs.Frontier.{frontierLine};
+ghost use Rattle.answers.specs.Deductions.{deductionLine};
+ghost use Rattle.answers.specs.Calls.{callLine};
+
+// The calls that a line may be put to.
+pub enum Call {
+    Frontier,
+    Direct,
+    Minus,
+}
 
 // The answer of refresh_matrixs to a line.
-pub fn frontier_line(line: &[u8], out: &mut [u8]) -> usize
+fn frontier_line(line: &[u8], out: &mut [u8]) -> usize
     ensures { λ r. ⌜ Written (now (out .entry)) 0 (frontierLine (now (line .entry))) (now (out .exit)) r ⌝ }
 {
     let read = read_line(line);
@@ -24,10 +37,7 @@ pub fn frontier_line(line: &[u8], out: &mut [u8]) -> usize
     let answer = refresh_matrixs(read.rows, read.columns, &cells[..len]);
     let tested = answer.tested;
     match tested {
-        Tested::Refused(refusal) => {
-            let word = put_bytes(out, 0, b"refused ");
-            put_number(out, word, refusal_number(refusal) as usize)
-        }
+        Tested::Refused(refusal) => put_refused(out, refusal),
         Tested::Accepted => {
             let mut at = put_bytes(out, 0, b"inside ");
             at = put_number(out, at, answer.inside_cell);
@@ -36,5 +46,39 @@ pub fn frontier_line(line: &[u8], out: &mut [u8]) -> usize
             at = put_bytes(out, at, b" ");
             put_blocks(out, at, answer.blocks)
         }
+    }
+}
+
+// The answer of a rule to a line. Each list that is lent has room for any board.
+fn deduction_line(rule: Rule, line: &[u8], out: &mut [u8]) -> usize
+    ensures { λ r. ⌜ Written (now (out .entry)) 0 (deductionLine rule (now (line .entry))) (now (out .exit)) r ⌝ }
+{
+    let read = read_line(line);
+    if !read.readable {
+        return put_bytes(out, 0, b"unreadable");
+    }
+    let mut cells = read.cells;
+    let len = read.len;
+    let mut safe = [0u16; 1024];
+    let mut mines = [0u16; 1024];
+    let answer = call_rule(
+        rule,
+        read.rows,
+        read.columns,
+        &mut cells[..len],
+        &mut safe,
+        &mut mines,
+    );
+    put_deduction(out, answer, &cells[..len], &safe, &mines)
+}
+
+// What a call answers to a line.
+pub fn call_line(call: Call, line: &[u8], out: &mut [u8]) -> usize
+    ensures { λ r. ⌜ Written (now (out .entry)) 0 (callLine call (now (line .entry))) (now (out .exit)) r ⌝ }
+{
+    match call {
+        Call::Frontier => frontier_line(line, out),
+        Call::Direct => deduction_line(Rule::Direct, line, out),
+        Call::Minus => deduction_line(Rule::Minus, line, out),
     }
 }

@@ -1,6 +1,8 @@
-// probe CALL: reads lines `R C v v v ..` from standard input and prints, a line each, what the call answers (frontier), `refused` with the number
-// of a refusal, or `unreadable`. A line of more than 16,384 bytes is unreadable.
-use answers::frontier_line;
+// probe CALL: reads lines `R C v v v ..` from standard input and prints, a line each, what the call (frontier, direct or minus) answers, `refused` with the
+// number of a refusal, or `unreadable`. A line of more than 16,384 bytes is unreadable.
+use answers::Call;
+use answers::call_line;
+use check::same;
 ghost use mathlib.Core.Path.{_≡_};
 ghost use Prim.Native.Nat.{_<_};
 ghost use lib.ListN.{length};
@@ -13,20 +15,20 @@ fn line_buffer() -> [u8; 16384]
 }
 
 // Prints the answer to one line; one that did not fit its buffer is unreadable.
-fn answer(line: &[u8], len: usize, out: &mut [u8]) {
+fn answer(call: Call, line: &[u8], len: usize, out: &mut [u8]) {
     if line.len() < len {
         io::write_all(1, b"unreadable\n");
         return;
     }
-    let n = frontier_line(&line[..len], out);
+    let n = call_line(call, &line[..len], out);
     io::write_all(1, &out[..n]);
     io::write_all(1, b"\n");
 }
 
 // Takes in one byte: the line's next, or its end. Returns how many bytes of a line are in.
-fn take(byte: u8, line: &mut [u8], len: usize, out: &mut [u8]) -> usize {
+fn take(call: Call, byte: u8, line: &mut [u8], len: usize, out: &mut [u8]) -> usize {
     if byte == b'\n' {
-        answer(line, len, out);
+        answer(call, line, len, out);
         return 0;
     }
     if len < line.len() {
@@ -37,10 +39,10 @@ fn take(byte: u8, line: &mut [u8], len: usize, out: &mut [u8]) -> usize {
 }
 
 // Takes in the bytes of a chunk.
-fn take_all(chunk: &[u8], line: &mut [u8], before: usize, out: &mut [u8]) -> usize {
+fn take_all(call: Call, chunk: &[u8], line: &mut [u8], before: usize, out: &mut [u8]) -> usize {
     let mut len = before;
     for i in 0..chunk.len() {
-        len = take(chunk[i], line, len, out);
+        len = take(call, chunk[i], line, len, out);
     }
     len
 }
@@ -57,18 +59,35 @@ fn chunks_left(left: usize, len: usize, full: usize) -> usize
 }
 
 // Reads standard input to its end, a chunk at a time, up to a number of chunks that no input has.
-fn run(chunk: &mut [u8], line: &mut [u8], out: &mut [u8]) {
+fn run(call: Call, chunk: &mut [u8], line: &mut [u8], out: &mut [u8]) {
     let mut len = 0;
     let mut left: usize = 0xffff_ffff_ffff;
     while 0 < left {
         let n = io::read_full(0, chunk);
-        len = take_all(&chunk[..n], line, len, out);
+        len = take_all(call, &chunk[..n], line, len, out);
         left = chunks_left(left, n, chunk.len());
     }
     if len == 0 {
         return;
     }
-    answer(line, len, out);
+    answer(call, line, len, out);
+}
+
+// Runs the call that a word names.
+fn run_named(word: &[u8], chunk: &mut [u8], line: &mut [u8], out: &mut [u8]) {
+    if same(word, b"frontier") {
+        run(Call::Frontier, chunk, line, out);
+        return;
+    }
+    if same(word, b"direct") {
+        run(Call::Direct, chunk, line, out);
+        return;
+    }
+    if same(word, b"minus") {
+        run(Call::Minus, chunk, line, out);
+        return;
+    }
+    io::write_all(2, b"usage: probe frontier|direct|minus < LINES\n");
 }
 
 fn main() {
@@ -77,14 +96,5 @@ fn main() {
     let mut chunk = io::large_buffer();
     let mut line = line_buffer();
     let mut out = io::large_buffer();
-    if is_frontier(&word[..n]) {
-        run(&mut chunk, &mut line, &mut out);
-    } else {
-        io::write_all(2, b"usage: probe frontier < LINES\n");
-    }
-}
-
-// Is the word `frontier`?
-fn is_frontier(word: &[u8]) -> bool {
-    check::same(word, b"frontier")
+    run_named(&word[..n], &mut chunk, &mut line, &mut out);
 }

@@ -1,6 +1,7 @@
 // replay: runs the stored answers of the Rust in data/, one file for each call, in which a line that is asked and the line that the Rust answered
 // follow each other. It names each case whose answer differs, and says how many agree.
-use answers::frontier_line;
+use answers::Call;
+use answers::call_line;
 use check::same;
 ghost use mathlib.Core.Path.{_≡_};
 ghost use Prim.Native.Nat.{_<_};
@@ -23,14 +24,21 @@ fn line_buffer() -> [u8; 16384]
 }
 
 // Does our answer to the line asked, of the length that is given, equal the stored one? Not where one of the lines did not fit its buffer.
-fn agrees(asked: &[u8], asked_len: usize, answer: &[u8], len: usize, out: &mut [u8]) -> bool {
+fn agrees(
+    call: Call,
+    asked: &[u8],
+    asked_len: usize,
+    answer: &[u8],
+    len: usize,
+    out: &mut [u8],
+) -> bool {
     if asked.len() < asked_len {
         return false;
     }
     if answer.len() < len {
         return false;
     }
-    let n = frontier_line(&asked[..asked_len], out);
+    let n = call_line(call, &asked[..asked_len], out);
     same(&out[..n], &answer[..len])
 }
 
@@ -54,9 +62,9 @@ fn one_more(cases: usize) -> usize {
 }
 
 // The case is judged; one that differs is named.
-fn judge(s: State, asked: &[u8], answer: &[u8], out: &mut [u8]) -> State {
+fn judge(call: Call, s: State, asked: &[u8], answer: &[u8], out: &mut [u8]) -> State {
     let asked_len = s.asked;
-    if agrees(asked, asked_len, answer, s.len, out) {
+    if agrees(call, asked, asked_len, answer, s.len, out) {
         return State {
             answering: false,
             asked: 0,
@@ -85,10 +93,17 @@ fn put(line: &mut [u8], len: usize, byte: u8) -> usize {
 }
 
 // Takes in one byte.
-fn take(s: State, byte: u8, asked: &mut [u8], answer: &mut [u8], out: &mut [u8]) -> State {
+fn take(
+    call: Call,
+    s: State,
+    byte: u8,
+    asked: &mut [u8],
+    answer: &mut [u8],
+    out: &mut [u8],
+) -> State {
     if byte == b'\n' {
         if s.answering {
-            return judge(s, asked, answer, out);
+            return judge(call, s, asked, answer, out);
         }
         return State {
             answering: true,
@@ -110,6 +125,7 @@ fn take(s: State, byte: u8, asked: &mut [u8], answer: &mut [u8], out: &mut [u8])
 
 // Takes in the bytes of a chunk.
 fn take_all(
+    call: Call,
     before: State,
     chunk: &[u8],
     asked: &mut [u8],
@@ -118,7 +134,7 @@ fn take_all(
 ) -> State {
     let mut s = before;
     for i in 0..chunk.len() {
-        s = take(s, chunk[i], asked, answer, out);
+        s = take(call, s, chunk[i], asked, answer, out);
     }
     s
 }
@@ -143,7 +159,7 @@ fn print_counts(agree: usize, differ: usize) {
 }
 
 // Runs the cases of an open file and says how many agree.
-fn run(fd: i32, chunk: &mut [u8], asked: &mut [u8], answer: &mut [u8], out: &mut [u8]) {
+fn run(call: Call, fd: i32, chunk: &mut [u8], asked: &mut [u8], answer: &mut [u8], out: &mut [u8]) {
     let mut s = State {
         answering: false,
         asked: 0,
@@ -154,10 +170,30 @@ fn run(fd: i32, chunk: &mut [u8], asked: &mut [u8], answer: &mut [u8], out: &mut
     let mut left: usize = 65536;
     while 0 < left {
         let n = io::read_full(fd, chunk);
-        s = take_all(s, &chunk[..n], asked, answer, out);
+        s = take_all(call, s, &chunk[..n], asked, answer, out);
         left = chunks_left(left, n, chunk.len());
     }
     print_counts(s.agree, s.differ);
+}
+
+// Runs the file of a call.
+fn run_file(
+    call: Call,
+    name: &[u8],
+    chunk: &mut [u8],
+    asked: &mut [u8],
+    answer: &mut [u8],
+    out: &mut [u8],
+) {
+    let fd = os::open_read(name);
+    if fd < 0 {
+        os::fail(name);
+        return;
+    }
+    io::write_all(1, name);
+    io::write_all(1, b": ");
+    run(call, fd, chunk, asked, answer, out);
+    libc::close(fd);
 }
 
 fn main() {
@@ -165,12 +201,28 @@ fn main() {
     let mut asked = line_buffer();
     let mut answer = io::large_buffer();
     let mut out = io::large_buffer();
-    let fd = os::open_read(b"frontier");
-    if fd < 0 {
-        os::fail(b"frontier");
-        return;
-    }
-    io::write_all(1, b"frontier: ");
-    run(fd, &mut chunk, &mut asked, &mut answer, &mut out);
-    libc::close(fd);
+    run_file(
+        Call::Frontier,
+        b"frontier",
+        &mut chunk,
+        &mut asked,
+        &mut answer,
+        &mut out,
+    );
+    run_file(
+        Call::Direct,
+        b"direct",
+        &mut chunk,
+        &mut asked,
+        &mut answer,
+        &mut out,
+    );
+    run_file(
+        Call::Minus,
+        b"minus",
+        &mut chunk,
+        &mut asked,
+        &mut answer,
+        &mut out,
+    );
 }

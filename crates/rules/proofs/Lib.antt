@@ -38,3 +38,6 @@ pub mod Handed
 pub mod WrittenCells
 pub mod Deductions
 pub mod SoundCalls
+-- what they answer can be read: blocks left fit, counts are within the lists
+pub mod LeftFits
+pub mod ReadableCalls

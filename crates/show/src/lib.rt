@@ -46,7 +46,7 @@ fn put_more(out: &mut [u8], at: usize, numbers: &[u16], from: usize, to: usize) 
 }
 
 // The same with commas between them.
-fn put_numbers(out: &mut [u8], at: usize, numbers: &[u16], from: usize, to: usize) -> usize
+pub fn put_numbers(out: &mut [u8], at: usize, numbers: &[u16], from: usize, to: usize) -> usize
     requires { ⌜ (at ≤ length (now out)) × (to ≤ length (now numbers)) ⌝ }
     ensures { λ r. ⌜ Written (now (out .entry)) at (numbersText (numbersIn (now (numbers .entry)) from to)) (now (out .exit)) r ⌝ }
 {

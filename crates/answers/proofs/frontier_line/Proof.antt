@@ -1,17 +1,17 @@
--- `frontier_line` meets its contract: the writes of each of its three ways are the answer's text, one behind the other (`AnswerWritten`), and the block set of the answer is
--- whole (`WholeBlocks`). Assumes nothing.
+-- `frontier_line` meets its contract: the writes of each of its three ways are the answer's text, one behind the other (`AnswerWritten`), and the block set of the
+-- answer is whole (`ReadableAnswers`). Assumes nothing.
 use mathlib.Core.Path.{_≡_}
 use mathlib.Core.Bool.{true}
 use Prim.Native.Nat.{_≤_}
 use native.Mathlib.Omega.{arith}
 use lib.ListN.{length, length-take}
+use borrow.Author.Needs.{needs}
 use borrow.Author.Tests.{not-true, not-false}
 use Rattle.text.proofs.Writing.{written-within}
-use Rattle.answers.specs.Frontier.{answerTo}
+use Rattle.answers.specs.Frontier.{frontierText, answerTo, frontierLine}
 use Rattle.answers.proofs.CellsSoFar.{line-fits}
-use Rattle.answers.proofs.WholeBlocks.{answer-whole}
-use Rattle.answers.proofs.AnswerWritten.{unreadable-written, refused-written, accepted-written}
-use borrow.Author.Needs.{needs}
+use Rattle.answers.proofs.ReadableAnswers.{answer-whole}
+use Rattle.answers.proofs.AnswerWritten.{unreadable-written, accepted-frontier, frontier-written, frontier-line-written}
 use Rattle.answers.proofs.frontier_line.Statement.{statement}
 use Rattle.answers.proofs.frontier_line.Tie as tie
 
@@ -42,12 +42,14 @@ same-length : tie.Need-same-length
 same-length c = search needs
 
 returns : tie.Need-returns
+unfolding frontierLine
 returns c =
     let line = c .before .before .before .before .before .before .before in
-    unreadable-written _ (line .read-line .result) (line .read-line .ensures) (not-true (line .read-line .result .readable) (c .before .before .before .before .before .if1 .taken)) (c .before .before .put-bytes .ensures)
+    unreadable-written _ (line .read-line .result) (line .read-line .ensures) (λ l. frontierText (answerTo l .tested) (answerTo l))
+    (not-true (line .read-line .result .readable) (c .before .before .before .before .before .if1 .taken)) (c .before .before .put-bytes .ensures)
 
 array-share-prefix-cells : tie.Need-array-share-prefix-cells
-array-share-prefix-cells c = omega (arith, fits (c .before .before .before))
+array-share-prefix-cells c = fits (c .before .before .before)
 
 slice-aggregate-refresh-matrixs : tie.Need-slice-aggregate-refresh-matrixs
 slice-aggregate-refresh-matrixs c = simp length-take (omega (arith, fits (c .before .before .before .before)))
@@ -58,23 +60,20 @@ refresh-matrixs-requires c κs = search needs
 enum-known-tested : tie.Need-enum-known-tested
 enum-known-tested c = search needs
 
+put-refused-requires : tie.Need-put-refused-requires
+put-refused-requires c κs = search needs
+
+enum-told : tie.Need-enum-told
+enum-told c = search needs
+
 slice-aggregate-put-bytes-2 : tie.Need-slice-aggregate-put-bytes-2
 slice-aggregate-put-bytes-2 c = search needs
 
 put-bytes-requires-2 : tie.Need-put-bytes-requires-2
 put-bytes-requires-2 c κs = search needs
 
-refusal-number-requires : tie.Need-refusal-number-requires
-refusal-number-requires c κs = search needs
-
-cast-put-number : tie.Need-cast-put-number
-cast-put-number c = search needs
-
 put-number-requires : tie.Need-put-number-requires
 put-number-requires c κs = search needs
-
-enum-told : tie.Need-enum-told
-enum-told c = search needs
 
 slice-aggregate-put-bytes-3 : tie.Need-slice-aggregate-put-bytes-3
 slice-aggregate-put-bytes-3 c = search needs
@@ -91,28 +90,19 @@ slice-aggregate-put-bytes-4 c = search needs
 put-bytes-requires-4 : tie.Need-put-bytes-requires-4
 put-bytes-requires-4 c κs = search needs
 
-put-number-requires-3 : tie.Need-put-number-requires-3
-put-number-requires-3 c κs = search needs
-
-slice-aggregate-put-bytes-5 : tie.Need-slice-aggregate-put-bytes-5
-slice-aggregate-put-bytes-5 c = search needs
-
-put-bytes-requires-5 : tie.Need-put-bytes-requires-5
-put-bytes-requires-5 c κs = search needs
-
 put-blocks-requires : tie.Need-put-blocks-requires
 put-blocks-requires c κs =
     let call = c .before .before .before .before .before .before .before .before .before .before .before .before .before .before .before .before .before .before .before .before .before .before .before .before .before .before in
-    (written-within (c .before .before .before .put-bytes5 .ensures), rw (answered call) (answer-whole _ _ _))
+    (written-within (c .before .before .before .put-bytes4 .ensures), rw (answered call) (answer-whole _ _ _))
 
 same-length-2 : tie.Need-same-length-2
 same-length-2 c = search needs
 
 returns-2 : tie.Need-returns-2
 returns-2 c =
-    let word = c .before .before .before .before .before .before .before in
-    let call = word .before .before .before .before .before .before in
-    refused-written _ _ (read call .read-line .ensures) (readable call) _ (answered call) (word .before .before .before .before .tested .given .1) (c .before .before .before .refusal-number .ensures) (word .put-bytes2 .ensures) (c .before .before .put-number .ensures)
+    let told = c .before .before .before .before .before .tested .given .1 in
+    let call = c .before .before .before .before .before .before .before in
+    frontier-line-written _ _ (read call .read-line .ensures) (readable call) _ (answered call) (frontier-written _ told (c .before .before .put-refused .ensures))
 
 same-length-3 : tie.Need-same-length-3
 same-length-3 c = search needs
@@ -124,8 +114,12 @@ returns-3 c =
     let mines = known .before .before .before .before in
     let cells = mines .before .before .before .before .before in
     let inside = cells .before .before .before .before in
-    let call = inside .before .before .before .before .before in
-    accepted-written _ _ (read call .read-line .ensures) (readable call) _ (answered call) (inside .before .before .before .enum-told .given .1) (inside .put-bytes3 .ensures) (cells .put-number2 .ensures) (mines .put-bytes4 .ensures) (known .put-number3 .ensures) (gap .put-bytes5 .ensures) (c .before .before .put-blocks .ensures)
+    let told = inside .before .before .before in
+    let call = told .before .before in
+    frontier-line-written _ _ (read call .read-line .ensures) (readable call) _ (answered call)
+    (frontier-written _ (told .enum-told .given .1)
+    (accepted-frontier (call .refresh-matrixs .result) (inside .put-bytes2 .ensures) (cells .put-number .ensures) (mines .put-bytes3 .ensures) (known .put-number2 .ensures) (gap .put-bytes4 .ensures)
+    (c .before .before .put-blocks .ensures)))
 
 pub frontier-line-spec : {M : Type 1} → statement M
 frontier-line-spec =
@@ -140,20 +134,16 @@ frontier-line-spec =
     slice-aggregate-refresh-matrixs
     refresh-matrixs-requires
     enum-known-tested
+    put-refused-requires
+    enum-told
     slice-aggregate-put-bytes-2
     put-bytes-requires-2
-    refusal-number-requires
-    cast-put-number
     put-number-requires
-    enum-told
     slice-aggregate-put-bytes-3
     put-bytes-requires-3
     put-number-requires-2
     slice-aggregate-put-bytes-4
     put-bytes-requires-4
-    put-number-requires-3
-    slice-aggregate-put-bytes-5
-    put-bytes-requires-5
     put-blocks-requires
     same-length-2
     returns-2

@@ -1,4 +1,4 @@
--- `answer` is safe and ends: the line stands inside its buffer, by the test, and so does the text that is printed, by what `frontier_line` ensures.
+-- `answer` is safe and ends: the line stands inside its buffer, by the test, and so does the text that is printed, by what `call_line` ensures.
 -- Assumes nothing.
 use native.Mathlib.Omega.{arith}
 use lib.ListN.{length-take}
@@ -15,11 +15,11 @@ write-all-requires c κs = search needs
 returns : tie.Need-returns
 returns c = search needs
 
-slice-aggregate-frontier-line : tie.Need-slice-aggregate-frontier-line
-slice-aggregate-frontier-line c = simp length-take (omega arith)
+slice-aggregate-call-line : tie.Need-slice-aggregate-call-line
+slice-aggregate-call-line c = simp length-take (omega arith)
 
-frontier-line-requires : tie.Need-frontier-line-requires
-frontier-line-requires c κs = search needs
+call-line-requires : tie.Need-call-line-requires
+call-line-requires c κs = search needs
 
 slice-reshare-prefix-write-all : tie.Need-slice-reshare-prefix-write-all
 slice-reshare-prefix-write-all c = search needs
@@ -49,8 +49,8 @@ answer-spec =
     slice-aggregate-write-all
     write-all-requires
     returns
-    slice-aggregate-frontier-line
-    frontier-line-requires
+    slice-aggregate-call-line
+    call-line-requires
     slice-reshare-prefix-write-all
     slice-aggregate-write-all-2
     write-all-requires-2

@@ -7,10 +7,10 @@ use Rattle.probe.proofs.run.Statement.{statement}
 use Rattle.probe.proofs.run.Tie as tie
 
 abbrev Inv-loop : tie.InvT-loop
-Inv-loop chunk₀ line₀ out₀ len₀ left₀ chunk line out len left = (length chunk ≡ length chunk₀) × (length line ≡ length line₀) × (length out ≡ length out₀)
+Inv-loop call chunk₀ line₀ out₀ len₀ left₀ chunk line out len left = (length chunk ≡ length chunk₀) × (length line ≡ length line₀) × (length out ≡ length out₀)
 
 abbrev μ-loop : tie.MeasureT-loop
-μ-loop chunk₀ line₀ out₀ len₀ left₀ chunk line out len left = left
+μ-loop call chunk₀ line₀ out₀ len₀ left₀ chunk line out len left = left
 
 loop-holds : tie.Need-loop-holds Inv-loop μ-loop
 loop-holds c = search needs

@@ -7,10 +7,10 @@ use Rattle.probe.proofs.take_all.Statement.{statement}
 use Rattle.probe.proofs.take_all.Tie as tie
 
 abbrev Inv-loop : tie.InvT-loop
-Inv-loop chunk line₀ before out₀ len₀ i₀ i-end line out len i = (length line ≡ length line₀) × (length out ≡ length out₀) × (i ≤ i-end)
+Inv-loop call chunk line₀ before out₀ len₀ i₀ i-end line out len i = (length line ≡ length line₀) × (length out ≡ length out₀) × (i ≤ i-end)
 
 abbrev μ-loop : tie.MeasureT-loop
-μ-loop chunk line₀ before out₀ len₀ i₀ i-end line out len i = i-end - i
+μ-loop call chunk line₀ before out₀ len₀ i₀ i-end line out len i = i-end - i
 
 loop-holds : tie.Need-loop-holds Inv-loop μ-loop
 loop-holds c = search needs

@@ -1,4 +1,4 @@
--- `agrees` is safe and ends: both lines stand inside their buffers, by its tests, and so does our answer, by what `frontier_line` ensures. Assumes nothing.
+-- `agrees` is safe and ends: both lines stand inside their buffers, by its tests, and so does our answer, by what `call_line` ensures. Assumes nothing.
 use native.Mathlib.Omega.{arith}
 use lib.ListN.{length-take}
 use borrow.Author.Needs.{needs}
@@ -11,11 +11,11 @@ returns c = search needs
 returns-2 : tie.Need-returns-2
 returns-2 c = search needs
 
-slice-aggregate-frontier-line : tie.Need-slice-aggregate-frontier-line
-slice-aggregate-frontier-line c = simp length-take (omega arith)
+slice-aggregate-call-line : tie.Need-slice-aggregate-call-line
+slice-aggregate-call-line c = simp length-take (omega arith)
 
-frontier-line-requires : tie.Need-frontier-line-requires
-frontier-line-requires c κs = search needs
+call-line-requires : tie.Need-call-line-requires
+call-line-requires c κs = search needs
 
 slice-reshare-prefix-same : tie.Need-slice-reshare-prefix-same
 slice-reshare-prefix-same c = search needs
@@ -41,8 +41,8 @@ agrees-spec =
     (tie.spec
     returns
     returns-2
-    slice-aggregate-frontier-line
-    frontier-line-requires
+    slice-aggregate-call-line
+    call-line-requires
     slice-reshare-prefix-same
     slice-aggregate-same
     slice-aggregate-same-2

@@ -7,11 +7,11 @@ use Rattle.replay.proofs.run.Statement.{statement}
 use Rattle.replay.proofs.run.Tie as tie
 
 abbrev Inv-loop : tie.InvT-loop
-Inv-loop fd chunk₀ asked₀ answer₀ out₀ s₀ left₀ chunk asked answer out s left =
+Inv-loop call fd chunk₀ asked₀ answer₀ out₀ s₀ left₀ chunk asked answer out s left =
     (length chunk ≡ length chunk₀) × (length asked ≡ length asked₀) × (length answer ≡ length answer₀) × (length out ≡ length out₀)
 
 abbrev μ-loop : tie.MeasureT-loop
-μ-loop fd chunk₀ asked₀ answer₀ out₀ s₀ left₀ chunk asked answer out s left = left
+μ-loop call fd chunk₀ asked₀ answer₀ out₀ s₀ left₀ chunk asked answer out s left = left
 
 loop-holds : tie.Need-loop-holds Inv-loop μ-loop
 loop-holds c = search needs

@@ -7,11 +7,11 @@ use Rattle.replay.proofs.take_all.Statement.{statement}
 use Rattle.replay.proofs.take_all.Tie as tie
 
 abbrev Inv-loop : tie.InvT-loop
-Inv-loop chunk asked₀ answer₀ out₀ s₀ i₀ i-end asked answer out s i =
+Inv-loop call chunk asked₀ answer₀ out₀ s₀ i₀ i-end asked answer out s i =
     (length asked ≡ length asked₀) × (length answer ≡ length answer₀) × (length out ≡ length out₀) × (i ≤ i-end)
 
 abbrev μ-loop : tie.MeasureT-loop
-μ-loop chunk asked₀ answer₀ out₀ s₀ i₀ i-end asked answer out s i = i-end - i
+μ-loop call chunk asked₀ answer₀ out₀ s₀ i₀ i-end asked answer out s i = i-end - i
 
 loop-holds : tie.Need-loop-holds Inv-loop μ-loop
 loop-holds c = search needs

@@ -1,0 +1,61 @@
+-- `call_line` meets its contract: each call's line is what the definition says of the call. Assumes nothing.
+use borrow.Author.Needs.{needs}
+use Rattle.answers.specs.Calls.{callLine}
+use Rattle.answers.proofs.call_line.Statement.{statement}
+use Rattle.answers.proofs.call_line.Tie as tie
+
+enum-told : tie.Need-enum-told
+enum-told c = search needs
+
+frontier-line-requires : tie.Need-frontier-line-requires
+frontier-line-requires c κs = search needs
+
+enum-told-2 : tie.Need-enum-told-2
+enum-told-2 c = search needs
+
+deduction-line-requires : tie.Need-deduction-line-requires
+deduction-line-requires c κs = search needs
+
+enum-told-3 : tie.Need-enum-told-3
+enum-told-3 c = search needs
+
+deduction-line-requires-2 : tie.Need-deduction-line-requires-2
+deduction-line-requires-2 c κs = search needs
+
+same-length : tie.Need-same-length
+same-length c = search needs
+
+returns : tie.Need-returns
+unfolding callLine
+returns c = rw (c .before .before .before .before .enum-told .given .1) (c .before .before .frontier-line .ensures)
+
+same-length-2 : tie.Need-same-length-2
+same-length-2 c = search needs
+
+returns-2 : tie.Need-returns-2
+unfolding callLine
+returns-2 c = rw (c .before .before .before .before .enum-told2 .given .1) (c .before .before .deduction-line .ensures)
+
+same-length-3 : tie.Need-same-length-3
+same-length-3 c = search needs
+
+returns-3 : tie.Need-returns-3
+unfolding callLine
+returns-3 c = rw (c .before .before .before .before .enum-told3 .given .1) (c .before .before .deduction-line2 .ensures)
+
+pub call-line-spec : {M : Type 1} → statement M
+call-line-spec =
+    tie.close
+    (tie.spec
+    enum-told
+    frontier-line-requires
+    enum-told-2
+    deduction-line-requires
+    enum-told-3
+    deduction-line-requires-2
+    same-length
+    returns
+    same-length-2
+    returns-2
+    same-length-3
+    returns-3)

@@ -1,0 +1,47 @@
+-- `put_deduction` meets its contract: by the answer of the tests it is a refusal's text or what was found. Assumes nothing.
+use Rattle.answers.proofs.AnswerWritten.{deduction-written}
+use Rattle.rules.specs.Answers.{seen}
+use borrow.Author.Needs.{needs}
+use Rattle.answers.proofs.deductions.put_deduction.Statement.{statement}
+use Rattle.answers.proofs.deductions.put_deduction.Tie as tie
+
+enum-known-tested : tie.Need-enum-known-tested
+enum-known-tested c = search needs
+
+put-refused-requires : tie.Need-put-refused-requires
+put-refused-requires c κs = search needs
+
+enum-told : tie.Need-enum-told
+enum-told c = search needs
+
+put-found-requires : tie.Need-put-found-requires
+put-found-requires c κs = search needs
+
+same-length : tie.Need-same-length
+same-length c = search needs
+
+returns : tie.Need-returns
+returns c =
+    let a = c .before .before .before .before .before .before .before .before .before .before .before .args in
+    deduction-written (seen (a .answer) (a .position .now) (a .safe .now) (a .mines .now)) (c .before .before .before .before .before .tested .given .1) (c .before .before .put-refused .ensures)
+
+same-length-2 : tie.Need-same-length-2
+same-length-2 c = search needs
+
+returns-2 : tie.Need-returns-2
+returns-2 c =
+    let a = c .before .before .before .before .before .before .before .before .before .before .args in
+    deduction-written (seen (a .answer) (a .position .now) (a .safe .now) (a .mines .now)) (c .before .before .before .before .enum-told .given .1) (c .before .before .put-found .ensures)
+
+pub put-deduction-spec : {M : Type 1} → statement M
+put-deduction-spec =
+    tie.close
+    (tie.spec
+    enum-known-tested
+    put-refused-requires
+    enum-told
+    put-found-requires
+    same-length
+    returns
+    same-length-2
+    returns-2)

@@ -1,0 +1,13 @@
+-- The calls by name, and what each answers to a line. Assumes nothing.
+use mathlib.Core.List.{List}
+use Prim.Native.Nat.{ℕ}
+use Rattle.answers.specs.declared.Call.{Call}
+use Rattle.answers.specs.declared.Call.the-variants.{Frontier, Direct, Minus}
+use Rattle.answers.specs.declared.deductions.Rule.the-variants as rule
+use Rattle.answers.specs.Frontier.{frontierLine}
+use Rattle.answers.specs.Deductions.{deductionLine}
+
+unfoldable pub callLine : Call → List ℕ → List ℕ
+callLine Frontier line = frontierLine line
+callLine Direct line = deductionLine rule.Direct line
+callLine Minus line = deductionLine rule.Minus line

@@ -1,0 +1,63 @@
+-- The answers of the calls that deduce to a line: `safe 1,5 mine 5 pos 0 12 0 1 1 11 blocks 0`, `refused 6`, or `unreadable`. Each list that is lent has
+-- room for 1024 cells. Assumes nothing.
+use mathlib.Core.Bool.{cond}
+use mathlib.Core.List.{List, [], _∷_, _++_}
+use Prim.Native.Nat.{ℕ, _≤_}
+use lib.ListN.{length, take, replicate}
+use Rattle.refusals.specs.declared.Tested.{Tested}
+use Rattle.refusals.specs.declared.Tested.the-variants.{Accepted, Refused}
+use Rattle.refusals.specs.Refusals.{refusalNumber}
+use Rattle.blocks.specs.BlockSets.{blocksOf, Whole}
+use Rattle.rules.specs.Answers.{Seen, solveDirect, solveMinus}
+use Rattle.show.specs.Blocks.{numbersText, blocksText}
+use Rattle.show.specs.Cells.{cellsText}
+use Rattle.answers.specs.declared.lines.Line.{Line}
+use Rattle.answers.specs.declared.deductions.Rule.{Rule}
+use Rattle.answers.specs.declared.deductions.Rule.the-variants.{Direct, Minus}
+use Rattle.answers.specs.Lines.{lineOf}
+use Rattle.answers.specs.Texts.{unreadableText, refusedText}
+
+-- `safe 1,5`
+abbrev pub safeText : List ℕ → List ℕ
+safeText l = (115 ∷ 97 ∷ 102 ∷ 101 ∷ 32 ∷ []) ++ numbersText l
+
+-- ` mine 5`
+abbrev pub mineText : List ℕ → List ℕ
+mineText l = (32 ∷ 109 ∷ 105 ∷ 110 ∷ 101 ∷ 32 ∷ []) ++ numbersText l
+
+-- ` pos 0 12 0 1 1 11`
+abbrev pub positionText : List ℕ → List ℕ
+positionText p = (32 ∷ 112 ∷ 111 ∷ 115 ∷ []) ++ cellsText p
+
+-- the four, one after another
+unfoldable pub foundText : Seen → List ℕ
+foundText w =
+    safeText (take (w .answer .safe) (w .safe))
+    ++ (mineText (take (w .answer .mines) (w .mines)) ++ (positionText (w .position) ++ (32 ∷ blocksText (blocksOf (w .answer .blocks)))))
+
+abbrev pub textAfter : Tested → Seen → List ℕ
+textAfter (Refused r) w = refusedText (refusalNumber r)
+textAfter Accepted w = foundText w
+
+-- what the caller sees, as text
+unfoldable pub deductionText : Seen → List ℕ
+deductionText w = textAfter (w .answer .tested) w
+
+-- the counts are within the lists, and the blocks can be read
+pub record Printable (w : Seen) : Type 0 where
+  pub safe-within : w .answer .safe ≤ length (w .safe)
+  pub mines-within : w .answer .mines ≤ length (w .mines)
+  pub blocks-whole : Whole (w .answer .blocks)
+
+-- a rule called on a position: what its caller sees
+unfoldable pub called : Rule → ℕ → ℕ → List ℕ → List ℕ → List ℕ → Seen
+called Direct rows columns p s m = solveDirect rows columns p s m
+called Minus rows columns p s m = solveMinus rows columns p s m
+
+-- its answer to a line's position
+abbrev pub calledOn : Rule → Line → Seen
+calledOn rule l = called rule (l .rows) (l .columns) (take (l .len) (l .cells)) (replicate 1024 0) (replicate 1024 0)
+
+-- a rule's answer to a line
+unfoldable pub deductionLine : Rule → List ℕ → List ℕ
+deductionLine rule line = cond (lineOf line .readable) (deductionText (calledOn rule (lineOf line))) unreadableText

@@ -1,0 +1,2 @@
+-- What C and Rust see of the calls.
+pub mod Returned
