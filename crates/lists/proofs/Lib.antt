@@ -15,11 +15,13 @@ pub mod CountsAlike
 pub mod Backwards
 pub mod Sharing
 pub mod Joined
--- elements of any type: where a test passes, lists among others, lists turned round, lists of elements one after another
+pub mod PlacesAndRanges
+-- elements of any type: where a test passes, lists among others, lists turned round, lists of elements one after another, lists compared and parted
 pub mod PassingElements
 pub mod Among
 pub mod TurnedRound
 pub mod ListsOfElements
+pub mod PartedLists
 -- arrays with a count, and loops over a list
 pub mod Arrays
 pub mod Counted

@@ -1,10 +1,9 @@
 -- The struct that the direct rule answers with. Without a contradiction its arrays hold the lists of the two sweeps, which are the blocks' lists, and the
 -- blocks left, split anew; with one it holds nothing, and the empty set is whole. Rests on the laws of listed cells and of all blocks. Assumes nothing.
-use mathlib.Core.Path.{_≡_, refl, ap, _∙_}
+use mathlib.Core.Path.{_≡_, ap, _∙_}
 use mathlib.Core.Bool.{true, false}
 use mathlib.Core.List.{List, [], map}
 use Prim.Native.Nat.{ℕ}
-use native.Mathlib.Omega.{arith}
 use lib.ListN.{take}
 use Rattle.blocks.specs.Blocks.{Block}
 use Rattle.blocks.specs.BlockSets.{allEquations, blockSet, Whole}
@@ -16,6 +15,7 @@ use Rattle.rules.specs.Direct.{sureMines, sureSafe, directLeft, negative
 use Rattle.rules.specs.Marked.{Ready, Listed}
 use Rattle.rules.specs.Answers.{ruleAnswer}
 use Rattle.rules.specs.declared.answer.RuleAnswer.{RuleAnswer}
+use Rattle.rules.proofs.LeftFits.{none-fits}
 use Rattle.rules.proofs.ListedCells.{listed-is}
 use Rattle.rules.proofs.AllBlocks.{mines-of-all, safe-of-all}
 
@@ -29,9 +29,7 @@ answer-contradicted bs r h e = rw h e
 -- the set that is left is whole
 pub contradicted-whole : (r : RuleAnswer) → r ≡ ruleAnswer contradicted → Whole (r .left)
 unfolding ruleAnswer
-contradicted-whole r e =
-    set-whole [] (r .left) (ap (λ (x : RuleAnswer). x .left) e)
-    (record { few-cells = omega arith; few-equations = omega arith; few-blocks = omega arith; on-board = refl; small = refl })
+contradicted-whole r e = set-whole [] (r .left) (ap (λ (x : RuleAnswer). x .left) e) none-fits
 
 -- ---- none
 

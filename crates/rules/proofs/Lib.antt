@@ -17,6 +17,9 @@ pub mod LeftEquations
 pub mod LeftBehind
 pub mod WhatIsLeft
 pub mod LeftInSet
+-- what the rules leave fits where the blocks do
+pub mod SmallerBlocks
+pub mod LeftFits
 -- what the functions of the direct rule do: cells listed, the two sweeps, and all blocks at once
 pub mod ListedCells
 pub mod Sweeps
@@ -26,7 +29,6 @@ pub mod LeftByMarks
 pub mod DirectAnswer
 -- and those of subtraction: pairs of equations, what is marked, and the struct
 pub mod SetPlaces
-pub mod SmallerBlocks
 pub mod ReadyBlocks
 pub mod MarkedSoFar
 pub mod Pairs
@@ -38,6 +40,5 @@ pub mod Handed
 pub mod WrittenCells
 pub mod Deductions
 pub mod SoundCalls
--- what they answer can be read: blocks left fit, counts are within the lists
-pub mod LeftFits
+-- what they answer can be read: counts are within the lists, and blocks fit
 pub mod ReadableCalls

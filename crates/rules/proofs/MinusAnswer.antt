@@ -1,9 +1,9 @@
 -- The subtraction rule on a block set, as the code puts it together: the marks of all pairs give its own lists and what is left, the direct rule's answer on
 -- that is a contradiction or two more lists and the blocks left, and the struct that holds all of it is the rule's answer. Rests on the laws of the marks, and
 -- on those of blocks that fit. Assumes nothing.
-use mathlib.Core.Path.{_≡_, refl, sym, ap, _∙_}
-use mathlib.Core.Bool.{Bool, true, false, cond, _||_}
-use mathlib.Core.List.{List, [], _++_, map}
+use mathlib.Core.Path.{_≡_, sym, ap, _∙_}
+use mathlib.Core.Bool.{true, false, _||_}
+use mathlib.Core.List.{List, [], _++_}
 use Prim.Native.Nat.{ℕ, _+_, _≤_, _<_}
 use native.Mathlib.Omega.{arith}
 use lib.ListN.{length, getD, take, replicate, length-append}
@@ -12,20 +12,20 @@ use Rattle.lists.specs.Lists.{range, bit, keep, any, pad}
 use Rattle.lists.proofs.Arrays.{pad-nil, pad-take}
 use Rattle.lists.proofs.Joined.{pad-sets}
 use Rattle.blocks.specs.Blocks.{BlockEquation, Block}
-use Rattle.blocks.specs.BlockSets.{blockSet, blocksOf, Small, Whole}
+use Rattle.blocks.specs.BlockSets.{blockSet, blocksOf, Whole}
 use Rattle.blocks.specs.Places.{marked}
 use Rattle.blocks.specs.declared.BlockSet.{BlockSet}
 use Rattle.blocks.proofs.Reading.{blocks-of-set}
 use Rattle.chunks.specs.Chunks.{chunkMatrixes}
-use Rattle.chunks.proofs.Sizes.{chunk-small}
 use Rattle.rules.specs.Found.{contradicted}
-use Rattle.rules.specs.Direct.{directLeft, fromLast, direct}
+use Rattle.rules.specs.Direct.{fromLast, direct}
 use Rattle.rules.specs.Minus.{minusMines, minusSafe, minusBlocks, subtraction}
 use Rattle.rules.specs.Marked.{Ready, cellsWith, allWith, leftBlocks}
 use Rattle.rules.specs.Answers.{ruleAnswer}
 use Rattle.rules.specs.declared.answer.RuleAnswer.{RuleAnswer}
-use Rattle.rules.proofs.DirectLaws.{direct-contradiction, direct-blocks-left}
-use Rattle.rules.proofs.SmallerBlocks.{direct-fits, minus-fits}
+use Rattle.rules.proofs.DirectLaws.{direct-contradiction}
+use Rattle.rules.proofs.SmallerBlocks.{minus-fits}
+use Rattle.rules.proofs.LeftFits.{direct-left-fits}
 use Rattle.rules.proofs.ReadyBlocks.{minus-ready, mines-room, safe-room}
 use Rattle.rules.proofs.SetPlaces.{any-places, joined-back, cells-at, equations-at}
 use Rattle.rules.proofs.Pairs.{minesOf, safeOf, minesIn, safeIn}
@@ -157,14 +157,7 @@ module _ (s : BlockSet) (w : Whole s) (ready : Ready (blocksOf s)) (mines safe :
       unfolding ruleAnswer
       rule-left =
           ap (λ (r : RuleAnswer). blocksOf (r .left)) answered
-          ∙ blocks-of-set (direct (minusBlocks bs) .left) (rw (direct-blocks-left (minusBlocks bs)) (go (direct (minusBlocks bs) .contradiction)))
-        where
-          blocks : List Block
-          blocks = chunkMatrixes (map directLeft (minusBlocks bs))
-
-          go : (t : Bool) → Small (cond t [] blocks)
-          go true = record { few-cells = omega arith; few-equations = omega arith; few-blocks = omega arith; on-board = refl; small = refl }
-          go false = chunk-small (map directLeft (minusBlocks bs)) (direct-fits (minusBlocks bs) (minus-fits bs (w .fits)))
+          ∙ blocks-of-set (direct (minusBlocks bs) .left) (direct-left-fits (minusBlocks bs) (minus-fits bs (w .fits)))
 
       -- a contradiction is handed on
       pub rule-contradicted : rule .contradiction ≡ true → rule ≡ ruleAnswer (subtraction bs)

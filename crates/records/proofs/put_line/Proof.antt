@@ -1,0 +1,30 @@
+-- `put_line` meets its contract: number, verdict and the end of the line are one text. Assumes nothing.
+use Rattle.records.proofs.LineWritten.{line-written}
+use borrow.Author.Needs.{needs}
+use Rattle.records.proofs.put_line.Statement.{statement}
+use Rattle.records.proofs.put_line.Tie as tie
+
+put-number-requires : tie.Need-put-number-requires
+put-number-requires c κs = search needs
+
+put-verdict-requires : tie.Need-put-verdict-requires
+put-verdict-requires c κs = search needs
+
+put-byte-requires : tie.Need-put-byte-requires
+put-byte-requires c κs = search needs
+
+same-length : tie.Need-same-length
+same-length c = search needs
+
+returns : tie.Need-returns
+returns c =
+    let end = c .before .before in
+    let verdict = end .before .before .before .before in
+    let count = verdict .before .before .before .before in
+    let a = count .before .before .before .args in
+    line-written (a .number) (a .verdict) (count .put-number .ensures) (verdict .put-verdict .ensures) (end .put-byte .ensures)
+
+pub put-line-spec : {M : Type 1} → statement M
+put-line-spec =
+    tie.close
+    (tie.spec put-number-requires put-verdict-requires put-byte-requires same-length returns)

@@ -1,0 +1,3 @@
+-- Board records, and the lines that answer them.
+pub mod Records
+pub mod Answers

@@ -1,0 +1,12 @@
+-- The three rules at a position, weakest first (document 01, "A verdict follows is_solvable"): each reads a fresh frontier, and the next is asked where
+-- one finds nothing. Assumes nothing.
+use mathlib.Core.List.{List}
+use Prim.Native.Nat.{ℕ}
+use Rattle.fitting.specs.Passes.{Found, orElse}
+use Rattle.rules.specs.Found.{ruleOf}
+use Rattle.rules.specs.Direct.{direct}
+use Rattle.rules.specs.Minus.{subtraction}
+use Rattle.solutions.specs.Enumeration.{enumerated}
+
+abbrev pub threeRules : (ℕ → List ℕ) → List ℕ → Found
+threeRules near = orElse (ruleOf near direct 1) (orElse (ruleOf near subtraction 2) (ruleOf near enumerated 3))

@@ -1,0 +1,105 @@
+-- Rounds and grade of a verdict, for every input: rounds never exceed the cells of the board, and the grade is at most 3. A refusal has neither, and a start on a
+-- mine has 0 of both; else they are those of the passes. Rests on `rounds-cells` and `grade-bound` of the crate fitting. Assumes nothing.
+use mathlib.Core.Path.{_≡_, refl, ap}
+use mathlib.Core.Logic.{inl, inr}
+use mathlib.Core.List.{List}
+use Prim.Native.Nat.{ℕ, _≤_, _<_}
+use native.Mathlib.Omega.{arith}
+use lib.Dec.{eqb}
+use lib.ListN.{length}
+use borrow.Author.Tests.{eqb-false}
+use Rattle.lists.proofs.Tests.{Decided, decided}
+use Rattle.grid.specs.Cells.{cellOf}
+use Rattle.grid.specs.Window.{neighbours}
+use Rattle.refusals.specs.declared.Tested.{Tested}
+use Rattle.refusals.specs.declared.Tested.the-variants.{Accepted, Refused as TestRefused}
+use Rattle.refusals.specs.Tests.{boardTested, startCell}
+use Rattle.refusals.proofs.Accepted.{accepted-board}
+use Rattle.fitting.specs.Boards.{Accepted as AcceptedBoard}
+use Rattle.fitting.specs.Passes.{nothing, orElse}
+use Rattle.fitting.proofs.Admitted.{tested-accepted}
+use Rattle.fitting.proofs.Passes.{rounds-cells, grade-bound}
+use Rattle.rules.specs.Found.{ruleOf}
+use Rattle.rules.specs.Direct.{direct}
+use Rattle.rules.specs.Minus.{subtraction}
+use Rattle.solutions.specs.ThreeRules.{threeRules}
+use Rattle.solutions.proofs.BoardRules.{board-rules-sound}
+use Rattle.verdict.specs.declared.Verdict.{Verdict}
+use Rattle.verdict.specs.declared.Verdict.the-variants.{Refused, Judged}
+use Rattle.verdict.specs.Verdict.{VerdictSeen, verdictSeen, afterTests, judgedFrom, isSolvable}
+
+-- the rounds and the grade of an answer; a refusal has none
+abbrev pub roundsOf : Verdict → ℕ
+roundsOf (Judged answer n grade rounds) = rounds
+roundsOf (Refused r) = 0
+
+abbrev pub gradeOf : Verdict → ℕ
+gradeOf (Judged answer n grade rounds) = grade
+gradeOf (Refused r) = 0
+
+-- the three rules have the grades 1, 2 and 3
+pub three-grades : (near : ℕ → List ℕ) (p : List ℕ) → threeRules near p .grade ≤ 3
+unfolding orElse
+three-grades near p = go (decided (nothing (ruleOf near direct 1 p))) (decided (nothing (ruleOf near subtraction 2 p)))
+  where
+    go : Decided (nothing (ruleOf near direct 1 p)) → Decided (nothing (ruleOf near subtraction 2 p)) → threeRules near p .grade ≤ 3
+    go (inr e) f = rw e (omega arith)
+    go (inl e) (inr f) = rw (e, f) (omega arith)
+    go (inl e) (inl f) = rw (e, f) (omega arith)
+
+-- ---- from the cell that the start means
+
+module _ (near : ℕ → List ℕ) (b : List ℕ) (s : ℕ) where
+  judged-grade : gradeOf (judgedFrom near b s .answer) ≤ 3
+  unfolding judgedFrom
+  judged-grade = go (decided (eqb (cellOf b s) 255))
+    where
+      go : Decided (eqb (cellOf b s) 255) → gradeOf (judgedFrom near b s .answer) ≤ 3
+      go (inl e) = rw e (omega arith)
+      go (inr e) = rw e (grade-bound near b (threeRules near) s 3 (λ p _. three-grades near p))
+
+judged-rounds : (rows columns : ℕ) (b : List ℕ) (s : ℕ) → AcceptedBoard (neighbours rows columns) b → s < length b
+    → roundsOf (judgedFrom (neighbours rows columns) b s .answer) ≤ length b
+unfolding judgedFrom
+judged-rounds rows columns b s ok l = go (decided (eqb (cellOf b s) 255))
+  where
+    go : Decided (eqb (cellOf b s) 255) → roundsOf (judgedFrom (neighbours rows columns) b s .answer) ≤ length b
+    go (inl e) = rw e (omega arith)
+    go (inr e) =
+        rw e
+        (rounds-cells (neighbours rows columns) b (threeRules (neighbours rows columns)) s ok l (eqb-false (cellOf b s) 255 e) (board-rules-sound rows columns b))
+
+-- ---- of the call
+
+module _ (rows columns row column : ℕ) (b shown : List ℕ) where
+  abbrev tests : Tested
+  tests = boardTested rows columns row column b (length shown)
+
+  abbrev judged : VerdictSeen
+  judged = judgedFrom (neighbours rows columns) b (startCell columns row column b)
+
+  -- the grade is at most 3
+  pub grade-at-most-three : gradeOf (isSolvable rows columns row column b shown .answer) ≤ 3
+  unfolding isSolvable
+  grade-at-most-three = go tests
+    where
+      go : (t : Tested) → gradeOf (afterTests t judged shown .answer) ≤ 3
+      go Accepted = judged-grade (neighbours rows columns) b (startCell columns row column b)
+      go (TestRefused x) = omega arith
+
+  -- rounds never exceed the cells
+  pub rounds-at-most-cells : roundsOf (isSolvable rows columns row column b shown .answer) ≤ length b
+  unfolding isSolvable
+  rounds-at-most-cells = go tests refl
+    where
+      go : (t : Tested) → tests ≡ t → roundsOf (afterTests t judged shown .answer) ≤ length b
+      go Accepted e =
+          judged-rounds rows columns b (startCell columns row column b) (tested-accepted rows columns row column b (length shown) e)
+          (accepted-board rows columns row column b (length shown) e .start-within)
+      go (TestRefused x) e = omega arith
+
+  -- so of an answer that is the definition's
+  pub answer-bounds : (r : Verdict) (after : List ℕ) → verdictSeen r after ≡ isSolvable rows columns row column b shown → (roundsOf r ≤ length b) × (gradeOf r ≤ 3)
+  answer-bounds r after e =
+      let same : r ≡ isSolvable rows columns row column b shown .answer = ap (λ (w : VerdictSeen). w .answer) e in
+      (rw same rounds-at-most-cells, rw same grade-at-most-three)

@@ -1,0 +1,69 @@
+-- Demand 3 of what the verdict answers, whole: for every board that the tests accept with a safe start, and every list of asks, since the definition of the
+-- answer is the passes over the three rules, which are sound and complete. Rests on `judge-demand-3` of the crate fitting and on the three rules' laws of the
+-- crate solutions. Assumes nothing.
+use mathlib.Core.Path.{_≡_, ap, _∙_}
+use mathlib.Core.Logic.{_≢_}
+use mathlib.Core.List.{List}
+use Prim.Native.Nat.{ℕ}
+use lib.ListN.{length}
+use borrow.Author.Tests.{ne-eqb}
+use Rattle.grid.specs.Cells.{cellOf}
+use Rattle.grid.specs.Window.{neighbours}
+use Rattle.refusals.specs.declared.Refusal.{Refusal}
+use Rattle.refusals.specs.declared.Tested.the-variants.{Accepted, Refused as TestRefused}
+use Rattle.refusals.specs.Tests.{boardTested, startCell}
+use Rattle.refusals.proofs.Accepted.{accepted-board}
+use Rattle.refusals.proofs.FirstFailure.{not-both}
+use Rattle.fitting.specs.Passes.{Ending, judge}
+use Rattle.fitting.specs.Demand.{Demand3, picture, opened}
+use Rattle.fitting.proofs.Admitted.{tested-accepted}
+use Rattle.fitting.proofs.Passes.{judge-demand-3}
+use Rattle.solutions.specs.ThreeRules.{threeRules}
+use Rattle.solutions.proofs.BoardRules.{board-rules-sound, board-rules-complete}
+use Rattle.verdict.specs.declared.Verdict.{Verdict}
+use Rattle.verdict.specs.declared.Verdict.the-variants.{Refused}
+use Rattle.verdict.specs.Verdict.{VerdictSeen, verdictSeen, endSeen, judgedFrom, isSolvable, MeetsDemand3}
+
+module _ (rows columns row column : ℕ) (b shown : List ℕ) where
+  -- the cell that the start means
+  abbrev start : ℕ
+  start = startCell columns row column b
+
+  abbrev passed : Ending
+  passed = judge (neighbours rows columns) b (threeRules (neighbours rows columns)) start
+
+  -- the tests refuse: the answer is their refusal, and the picture stays as it was
+  module _ (x : Refusal) (tests : boardTested rows columns row column b (length shown) ≡ TestRefused x) where
+    pub tests-refuse : verdictSeen (Refused x) shown ≡ isSolvable rows columns row column b shown
+    unfolding isSolvable
+    tests-refuse = rw tests
+
+    -- demand 3 is asked of accepted boards only
+    pub refusal-demand-3 : {P : Type 0} → boardTested rows columns row column b (length shown) ≡ Accepted → P
+    refusal-demand-3 accepted = not-both (boardTested rows columns row column b (length shown)) x accepted tests
+
+  module _ (tests : boardTested rows columns row column b (length shown) ≡ Accepted) where
+    -- the tests accept: the verdict is that from the start's cell
+    pub tests-accept : isSolvable rows columns row column b shown ≡ judgedFrom (neighbours rows columns) b (startCell columns row column b)
+    unfolding isSolvable
+    tests-accept = rw tests
+
+    module _ (safe : cellOf b (startCell columns row column b) ≢ 255) where
+      -- and with a safe start it is the end of the passes
+      pub passes-seen : isSolvable rows columns row column b shown
+          ≡ endSeen (judge (neighbours rows columns) b (threeRules (neighbours rows columns)) (startCell columns row column b))
+      unfolding judgedFrom
+      passes-seen = tests-accept ∙ rw (ne-eqb (cellOf b start) 255 safe)
+
+      passes-demand-3 : Demand3 (neighbours rows columns) b start (passed .yes) (opened (passed .position)) (picture (passed .position))
+      passes-demand-3 =
+          judge-demand-3 (neighbours rows columns) b (threeRules (neighbours rows columns)) start (tested-accepted rows columns row column b (length shown) tests)
+          (accepted-board rows columns row column b (length shown) tests .start-within) safe
+          (board-rules-sound rows columns b) (board-rules-complete rows columns b)
+
+      -- demand 3 of an answer that is the definition's
+      pub answer-demand-3 : (r : Verdict) (after : List ℕ) → verdictSeen r after ≡ isSolvable rows columns row column b shown
+          → MeetsDemand3 (neighbours rows columns) b (startCell columns row column b) r after
+      answer-demand-3 r after e =
+          let told = e ∙ passes-seen in
+          rw (ap (λ (w : VerdictSeen). w .answer) told, ap (λ (w : VerdictSeen). w .shown) told) passes-demand-3

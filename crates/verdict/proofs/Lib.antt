@@ -1,0 +1,12 @@
+-- The laws of the verdict: loops over cells, a pass in any order, the passes underway, what the rules find, demand 3, and what a caller may rely on.
+pub mod InPlaceAndEmpty
+pub mod CellByCell
+pub mod SamePass
+pub mod FoundCells
+pub mod Underway
+pub mod PassesOnBoard
+pub mod ThreeFindings
+pub mod FromStart
+pub mod DemandThree
+pub mod Bounds
+pub mod NoContradictions

@@ -1,0 +1,69 @@
+-- In the verdict no rule refuses: the board's own layout fits each position that the passes come to, so that no rule meets a contradiction there. Rests on
+-- `begin-own` and `pass-own` of the crate fitting and on the soundness of the rules. Assumes nothing.
+use mathlib.Core.Path.{_≡_}
+use mathlib.Core.Logic.{_≢_}
+use mathlib.Core.Bool.{false}
+use mathlib.Core.List.{List}
+use Prim.Native.Nat.{ℕ, _<_}
+use lib.ListN.{length}
+use Rattle.grid.specs.Cells.{cellOf}
+use Rattle.grid.specs.Window.{neighbours}
+use Rattle.grid.proofs.Neighbours.{neighbours-nodup}
+use Rattle.refusals.specs.declared.Tested.the-variants.{Accepted}
+use Rattle.refusals.specs.Tests.{boardTested, startCell}
+use Rattle.refusals.proofs.Accepted.{accepted-board}
+use Rattle.fitting.specs.Layouts.{Fits}
+use Rattle.fitting.specs.Boards.{Accepted as AcceptedBoard, own}
+use Rattle.fitting.specs.Passes.{Found, pass, judge}
+use Rattle.fitting.specs.Rules.{Sound}
+use Rattle.fitting.proofs.Admitted.{tested-accepted}
+use Rattle.fitting.proofs.Steps.{beginning}
+use Rattle.fitting.proofs.Passes.{begin-own, pass-own, passes-keep}
+use Rattle.frontier.specs.Frontier.{frontier}
+use Rattle.rules.specs.Direct.{direct}
+use Rattle.rules.specs.Minus.{subtraction}
+use Rattle.rules.proofs.Soundness.{direct-sound-at, subtraction-sound-at}
+use Rattle.solutions.specs.Enumeration.{enumerated}
+use Rattle.solutions.specs.ThreeRules.{threeRules}
+use Rattle.solutions.proofs.BoardRules.{neighbours-few-everywhere, board-rules-sound}
+use Rattle.solutions.proofs.Completeness.{enumeration-sound-at}
+
+-- the positions that the passes from the start s come to
+pub data OnTheWay (near : ℕ → List ℕ) (b : List ℕ) (rule : List ℕ → Found) (s : ℕ) : List ℕ → Type 0 where
+  begins : OnTheWay near b rule s (beginning near b s)
+  goes-on : {p : List ℕ} → OnTheWay near b rule s p → OnTheWay near b rule s (pass near b p (rule p))
+
+module _ (near : ℕ → List ℕ) (b : List ℕ) (rule : List ℕ → Found) (s : ℕ) where
+  -- the last of them is where the passes end
+  pub ends-on-the-way : OnTheWay near b rule s (judge near b rule s .position)
+  unfolding judge
+  ends-on-the-way = passes-keep near b rule (λ p _ _. OnTheWay near b rule s p) (λ p _ _ _ w. goes-on w) (length b) (beginning near b s) 0 0 begins
+
+  -- the board's own layout fits each
+  pub own-on-the-way : AcceptedBoard near b → s < length b → cellOf b s ≢ 255 → Sound near b rule
+      → {p : List ℕ} → OnTheWay near b rule s p → Fits near p (own b)
+  own-on-the-way ok l safe sound begins = begin-own near b s ok l safe
+  own-on-the-way ok l safe sound (goes-on {p = p} w) = pass-own near b rule p ok sound (own-on-the-way ok l safe sound w)
+
+-- none of the three rules meets a contradiction at a position
+pub record NoContradiction (near : ℕ → List ℕ) (p : List ℕ) : Type 0 where
+  pub by-direct : direct (frontier near p) .contradiction ≡ false
+  pub by-subtraction : subtraction (frontier near p) .contradiction ≡ false
+  pub by-enumeration : enumerated (frontier near p) .contradiction ≡ false
+
+module _ (rows columns row column : ℕ) (b : List ℕ) (n : ℕ) (tests : boardTested rows columns row column b n ≡ Accepted)
+    (safe : cellOf b (startCell columns row column b) ≢ 255) where
+  pub no-rule-refuses : {p : List ℕ}
+      → OnTheWay (neighbours rows columns) b (threeRules (neighbours rows columns)) (startCell columns row column b) p
+      → NoContradiction (neighbours rows columns) p
+  no-rule-refuses {p} way =
+      let near = neighbours rows columns in
+      let once = neighbours-nodup rows columns in
+      let few = neighbours-few-everywhere rows columns in
+      let fit = own-on-the-way near b (threeRules near) (startCell columns row column b) (tested-accepted rows columns row column b n tests)
+      (accepted-board rows columns row column b n tests .start-within) safe (board-rules-sound rows columns b) way in
+      record {
+        by-direct = direct-sound-at near once few p .no-contradiction (own b) fit;
+        by-subtraction = subtraction-sound-at near once few p .no-contradiction (own b) fit;
+        by-enumeration = enumeration-sound-at near once few p .no-contradiction (own b) fit;
+      }

@@ -1,0 +1,3 @@
+-- The verdict, and what the functions that reach it are told.
+pub mod Verdict
+pub mod Findings

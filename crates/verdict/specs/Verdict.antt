@@ -1,0 +1,47 @@
+-- The verdict as a caller sees it (document 01, "Verdict, deductions, table" and "The three rules"): refusals 1, 2, 3, 4, 5 and 7; a start on a mine is judged
+-- no, with nothing opened; else the passes over the three rules, and the picture of the position that they end with. Assumes nothing.
+use mathlib.Core.Bool.{false, cond}
+use mathlib.Core.List.{List}
+use Prim.Native.Nat.{ℕ}
+use lib.Dec.{eqb}
+use lib.ListN.{length, replicate}
+use Rattle.grid.specs.Cells.{cellOf}
+use Rattle.grid.specs.Window.{neighbours}
+use Rattle.refusals.specs.declared.Tested.{Tested}
+use Rattle.refusals.specs.declared.Tested.the-variants.{Accepted, Refused as TestRefused}
+use Rattle.refusals.specs.Tests.{boardTested, startCell}
+use Rattle.fitting.specs.Passes.{Ending, judge}
+use Rattle.fitting.specs.Demand.{Demand3, picture, opened}
+use Rattle.solutions.specs.ThreeRules.{threeRules}
+use Rattle.verdict.specs.declared.Verdict.{Verdict}
+use Rattle.verdict.specs.declared.Verdict.the-variants.{Refused, Judged}
+
+-- what the caller sees after the call: the answer, and the lent picture
+pub record VerdictSeen : Type 0 where
+  pub answer : Verdict
+  pub shown : List ℕ
+
+abbrev pub verdictSeen : Verdict → List ℕ → VerdictSeen
+verdictSeen a shown = record { answer = a; shown = shown }
+
+-- what the end of the passes is to the caller
+abbrev pub endSeen : Ending → VerdictSeen
+endSeen e = verdictSeen (Judged (e .yes) (opened (e .position)) (e .grade) (e .rounds)) (picture (e .position))
+
+-- the verdict from the cell that the start means
+unfoldable pub judgedFrom : (ℕ → List ℕ) → List ℕ → ℕ → VerdictSeen
+judgedFrom near b s = cond (eqb (cellOf b s) 255) (verdictSeen (Judged false 0 0 0) (replicate (length b) 10)) (endSeen (judge near b (threeRules near) s))
+
+-- the tests first; a refusal leaves the picture as it was
+abbrev pub afterTests : Tested → VerdictSeen → List ℕ → VerdictSeen
+afterTests Accepted w shown = w
+afterTests (TestRefused r) w shown = verdictSeen (Refused r) shown
+
+unfoldable pub isSolvable : ℕ → ℕ → ℕ → ℕ → List ℕ → List ℕ → VerdictSeen
+isSolvable rows columns row column b shown =
+    afterTests (boardTested rows columns row column b (length shown)) (judgedFrom (neighbours rows columns) b (startCell columns row column b)) shown
+
+-- demand 3 of an answer that isn't a refusal
+abbrev pub MeetsDemand3 : (ℕ → List ℕ) → List ℕ → ℕ → Verdict → List ℕ → Type 0
+MeetsDemand3 near b s (Judged answer n grade rounds) shown = Demand3 near b s answer n shown
+MeetsDemand3 near b s (Refused r) shown = ⊥

@@ -1,0 +1,82 @@
+// What one pass finds at a position: the direct rule's cells, else those of subtraction, else those of enumeration, with the grade of the rule that found them.
+use blocks::BlockSet;
+use frontier::read_blocks;
+use rules::answer::RuleAnswer;
+use rules::direct::direct_rule;
+use rules::minus::minus_rule;
+use solutions::enumerate::enumerate_rule;
+ghost use mathlib.Core.Path.{_≡_};
+ghost use mathlib.Core.List.{List·Memᴰ};
+ghost use Rattle.grid.specs.Window.{neighbours, Board};
+ghost use Prim.Native.Nat.{_*_};
+ghost use Rattle.blocks.specs.Blocks.{Block};
+ghost use Rattle.blocks.specs.BlockSets.{blocksOf, Whole};
+ghost use Rattle.rules.specs.Marked.{Ready};
+ghost use Rattle.rules.specs.Direct.{direct};
+ghost use Rattle.rules.specs.Minus.{subtraction};
+ghost use Rattle.rules.specs.Answers.{ruleAnswer};
+ghost use Rattle.solutions.specs.Enumeration.{enumerated};
+ghost use Rattle.solutions.specs.Grouping.{Combinable};
+ghost use Rattle.solutions.specs.ThreeRules.{threeRules};
+ghost use Rattle.verdict.specs.Findings.{Finds, gradedFinding, foundCell, firstFinding};
+
+// Two lists of cells with their counts, and a grade.
+pub struct Finding {
+    pub safe: [u16; 1024],
+    pub safe_count: usize,
+    pub mines: [u16; 1024],
+    pub mine_count: usize,
+    pub grade: usize,
+}
+
+// A rule's lists with its grade.
+fn graded(found: RuleAnswer, grade: usize) -> Finding
+    ensures { λ r. ⌜ r ≡ gradedFinding found grade ⌝ }
+{
+    let safe = found.safe;
+    let mines = found.mines;
+    Finding {
+        safe,
+        safe_count: found.safe_count,
+        mines,
+        mine_count: found.mine_count,
+        grade,
+    }
+}
+
+// Did a rule find a cell?
+fn found_cell(found: RuleAnswer) -> bool
+    ensures { λ r. ⌜ r ≡ foundCell found ⌝ }
+{
+    if found.safe_count == 0 {
+        found.mine_count != 0
+    } else {
+        true
+    }
+}
+
+// The three rules on blocks, weakest first.
+fn find_in_blocks(set: BlockSet) -> Finding
+    requires { ⌜ Whole set ⌝ }
+    requires { ⌜ Ready (blocksOf set) ⌝ }
+    requires { ⌜ ((b : Block) → List·Memᴰ b (blocksOf set) → Combinable b) ⌝ }
+    ensures { λ r. ⌜ r ≡ firstFinding (ruleAnswer (direct (blocksOf set))) (ruleAnswer (subtraction (blocksOf set))) (ruleAnswer (enumerated (blocksOf set))) ⌝ }
+{
+    let direct = direct_rule(set);
+    if found_cell(direct) {
+        return graded(direct, 1);
+    }
+    let minus = minus_rule(set);
+    if found_cell(minus) {
+        return graded(minus, 2);
+    }
+    graded(enumerate_rule(set), 3)
+}
+
+// What a pass finds.
+pub fn find_cells(rows: usize, columns: usize, position: &[u8]) -> Finding
+    requires { ⌜ Board (now position) rows columns ⌝ }
+    ensures { λ r. ⌜ Finds (rows * columns) (threeRules (neighbours rows columns) (now (position .entry))) r ⌝ }
+{
+    find_in_blocks(read_blocks(rows, columns, position))
+}

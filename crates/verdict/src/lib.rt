@@ -1,0 +1,94 @@
+// The verdict: is_solvable with refresh_board and IsVictory, in document 01's passes. The lent picture is the position on which the passes work; at the
+// end what is not open is 10 again. specs/Verdict.antt says what a caller sees; demand 3 is part of the contract.
+pub mod finding;
+pub mod passes;
+
+use flood::refresh_board;
+use passes::run_passes;
+use refusals::Refusal;
+use refusals::Tested;
+use refusals::start_cell;
+use refusals::test_board;
+ghost use mathlib.Core.Path.{_≡_};
+ghost use mathlib.Core.Logic.{_≢_};
+ghost use Prim.Native.Nat.{_*_, _<_};
+ghost use lib.ListN.{length, replicate};
+ghost use Rattle.grid.specs.Cells.{cellOf};
+ghost use Rattle.grid.specs.Window.{neighbours, Board};
+ghost use Rattle.refusals.specs.declared.Tested.the-variants.{Accepted as TestAccepted};
+ghost use Rattle.refusals.specs.Tests.{boardTested, startCell};
+ghost use Rattle.fitting.specs.Boards.{Accepted};
+ghost use Rattle.fitting.specs.Demand.{picture as pictureOf, opened};
+ghost use Rattle.verdict.specs.Verdict.{verdictSeen, judgedFrom, isSolvable, MeetsDemand3};
+
+// What the verdict answers: a refusal, or yes or no, the opened cells, the grade and the rounds.
+pub enum Verdict {
+    Refused(Refusal),
+    Judged(bool, usize, usize, usize),
+}
+
+// Every cell closed.
+fn close_all(picture: &mut [u8])
+    ensures { λ _. ⌜ now (picture .exit) ≡ replicate (length (now (picture .entry))) 10 ⌝ }
+{
+    for i in 0..picture.len() {
+        picture[i] = 10;
+    }
+}
+
+// Makes 10 of what is not open, and counts what is.
+fn close_marks(picture: &mut [u8]) -> usize
+    ensures { λ r. ⌜ (r ≡ opened (now (picture .entry))) × (now (picture .exit) ≡ pictureOf (now (picture .entry))) ⌝ }
+{
+    let mut opened = 0;
+    for i in 0..picture.len() {
+        if picture[i] <= 8 {
+            opened += 1;
+        } else {
+            picture[i] = 10;
+        }
+    }
+    opened
+}
+
+// The verdict of an accepted board from the cell that its start means.
+fn judge(rows: usize, columns: usize, cells: &[u8], start: usize, picture: &mut [u8]) -> Verdict
+    requires { ⌜ Board (now cells) rows columns × Board (now picture) rows columns ⌝ }
+    requires { ⌜ Accepted (neighbours rows columns) (now cells) ⌝ }
+    requires { ⌜ start < length (now cells) ⌝ }
+    ensures { λ r. ⌜ verdictSeen r (now (picture .exit)) ≡ judgedFrom (neighbours rows columns) (now (cells .entry)) start ⌝ }
+{
+    close_all(picture);
+    if cells[start] == 255 {
+        return Verdict::Judged(false, 0, 0, 0);
+    }
+    let mut list = [0u16; 1024];
+    list[0] = start as u16;
+    refresh_board(rows, columns, cells, picture, &list, 1);
+    let end = run_passes(rows, columns, cells, picture);
+    let opened = close_marks(picture);
+    Verdict::Judged(end.yes, opened, end.grade, end.rounds)
+}
+
+// is_solvable: refusals 1, 2, 3, 4, 5 and 7, then the verdict.
+pub fn is_solvable(
+    rows: usize,
+    columns: usize,
+    start_row: usize,
+    start_column: usize,
+    cells: &[u8],
+    picture: &mut [u8],
+) -> Verdict
+    ensures { λ r. ⌜ verdictSeen r (now (picture .exit)) ≡ isSolvable rows columns «start_row» «start_column» (now (cells .entry)) (now (picture .entry)) ⌝ }
+    ensures { λ r. ⌜ (boardTested rows columns «start_row» «start_column» (now (cells .entry)) (length (now (picture .entry))) ≡ TestAccepted
+        → cellOf (now (cells .entry)) (startCell columns «start_row» «start_column» (now (cells .entry))) ≢ 255
+        → MeetsDemand3 (neighbours rows columns) (now (cells .entry)) (startCell columns «start_row» «start_column» (now (cells .entry))) r (now (picture .exit))) ⌝ }
+{
+    match test_board(rows, columns, start_row, start_column, cells, picture.len()) {
+        Tested::Refused(refusal) => Verdict::Refused(refusal),
+        Tested::Accepted => {
+            let start = start_cell(rows, columns, start_row, start_column, cells);
+            judge(rows, columns, cells, start, picture)
+        }
+    }
+}

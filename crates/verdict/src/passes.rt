@@ -1,0 +1,94 @@
+// The passes: each marks the mines and opens the safe cells that the rules find, until all safe cells are open or a pass finds nothing.
+use super::finding::find_cells;
+use flood::refresh_board;
+use grid::window::wide;
+ghost use mathlib.Core.Path.{_≡_};
+ghost use Rattle.grid.specs.Window.{neighbours, Board};
+ghost use Prim.Native.Nat.{_*_, _≤_, max};
+ghost use lib.Dec.{ltb};
+ghost use lib.ListN.{length, take};
+ghost use Rattle.lists.specs.Lists.{all};
+ghost use mathlib.Core.Bool.{true};
+ghost use Rattle.fitting.specs.Layouts.{Fits};
+ghost use Rattle.fitting.specs.Boards.{Accepted, own};
+ghost use Rattle.fitting.specs.Passes.{allOpen, markMines, passes};
+ghost use Rattle.solutions.specs.ThreeRules.{threeRules};
+ghost use Rattle.verdict.specs.Findings.{endOf};
+
+// How the passes end.
+pub struct Ending {
+    pub yes: bool,
+    pub grade: usize,
+    pub rounds: usize,
+}
+
+// IsVictory: is every safe cell open?
+pub fn all_open(board: &[u8], position: &[u8]) -> bool
+    requires { ⌜ length (now position) ≡ length (now board) ⌝ }
+    ensures { λ r. ⌜ r ≡ allOpen (now (board .entry)) (now (position .entry)) ⌝ }
+{
+    for i in 0..board.len() {
+        if board[i] != 255 {
+            if 8 < position[i] {
+                return false;
+            }
+        }
+    }
+    true
+}
+
+// Marks the first `count` cells of a list as known mines.
+fn mark_mines(position: &mut [u8], list: &[u16; 1024], count: usize)
+    requires { ⌜ (length (now list) ≡ 1024) × (count ≤ 1024) ⌝ }
+    requires { ⌜ all (λ c. ltb c (length (now position))) (take count (now list)) ≡ true ⌝ }
+    ensures { λ _. ⌜ now (position .exit) ≡ markMines (now (position .entry)) (take count (now (list .entry))) ⌝ }
+{
+    for k in 0..count {
+        position[wide(list[k])] = 11;
+    }
+}
+
+// The greater of two grades.
+fn greater(a: usize, b: usize) -> usize
+    ensures { λ r. ⌜ r ≡ max a b ⌝ }
+{
+    if a < b { b } else { a }
+}
+
+// At most as many passes as there are cells.
+pub fn run_passes(rows: usize, columns: usize, board: &[u8], position: &mut [u8]) -> Ending
+    requires { ⌜ Board (now board) rows columns × Board (now position) rows columns ⌝ }
+    requires { ⌜ Accepted (neighbours rows columns) (now board) ⌝ }
+    requires { ⌜ Fits (neighbours rows columns) (now position) (own (now board)) ⌝ }
+    ensures { λ r. ⌜ r ≡ endOf (passes (neighbours rows columns) (now (board .entry)) (threeRules (neighbours rows columns)) (length (now (board .entry))) (now (position .entry)) 0 0) ⌝ }
+    ensures { λ _. ⌜ now (position .exit) ≡ passes (neighbours rows columns) (now (board .entry)) (threeRules (neighbours rows columns)) (length (now (board .entry))) (now (position .entry)) 0 0 .position ⌝ }
+{
+    let mut grade = 0;
+    let mut rounds = 0;
+    let cells = board.len();
+    for k in 0..cells {
+        if all_open(board, position) {
+            return Ending {
+                yes: true,
+                grade,
+                rounds,
+            };
+        }
+        let found = find_cells(rows, columns, position);
+        let safe = found.safe;
+        let mines = found.mines;
+        if found.safe_count + found.mine_count == 0 {
+            return Ending {
+                yes: false,
+                grade,
+                rounds,
+            };
+        }
+        mark_mines(position, &mines, found.mine_count);
+        refresh_board(rows, columns, board, position, &safe, found.safe_count);
+        grade = greater(grade, found.grade);
+        rounds += 1;
+    }
+    let yes = all_open(board, position);
+    Ending { yes, grade, rounds }
+}
