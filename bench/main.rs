@@ -1,5 +1,6 @@
 // Times our calls beside the Rust's functions, on the same positions in one process. Positions come from played games: random boards, opened by the
-// Rust's own loop, each position kept as it is before a rule reads it. Every answer that can be compared cheaply is compared on the way.
+// Rust's own loop, each position kept as it is before a rule reads it. The pattern call is timed on random boards. Every answer that can be compared
+// cheaply is compared on the way.
 use std::time::Instant;
 
 include!("../oracle/shim.rs");
@@ -19,6 +20,7 @@ extern "C" {
     fn minus_cells(
         rows: usize, columns: usize, position: *mut u8, length: usize, safe: *mut u16, safe_length: usize, mines: *mut u16, mines_length: usize,
     ) -> u64;
+    fn pattern_found(rows: usize, columns: usize, cells: *const u8, length: usize) -> u8;
 }
 
 /// A small generator of its own, so that a seed gives the same boards everywhere.
@@ -109,6 +111,18 @@ fn compare<T: PartialEq + std::fmt::Debug>(name: &str, round: usize, count: usiz
     println!("{}, round {}: rust {:.2} us, ours {:.2} us, ratio {:.2}", name, round, rust_time * each, our_time * each, rust_time / our_time);
 }
 
+/// Times the pattern call on random boards.
+fn patterns(random: &mut Random, rows: usize, columns: usize, mines: usize, count: usize) {
+    let boards: Vec<Grid> = (0..count).map(|_| board(random, rows, columns, mines)).collect();
+    let bytes: Vec<Vec<u8>> = boards.iter().map(|g| g.iter().flatten().map(|&v| v as u8).collect()).collect();
+    let ours = |b: &[u8]| unsafe { pattern_found(rows, columns, b.as_ptr(), b.len()) };
+    let found = boards.iter().filter(|g| unsolvable_structure(g)).count();
+    println!("{} boards of {} x {} with {} mines, {} with a pattern", count, rows, columns, mines, found);
+    for round in 1..=3 {
+        compare("pattern", round, count, |k| unsolvable_structure(&boards[k]) as u8, |k| ours(&bytes[k]));
+    }
+}
+
 fn main() {
     let (rows, columns, mines, games) = (16, 30, 99, 300);
     let mut random = Random(20261115);
@@ -132,5 +146,8 @@ fn main() {
             let ours = |k: usize| our_counts(call, rows, columns, &bytes[k], &mut safe, &mut mined);
             compare(name, round, count, |k| rust_counts(rule, &positions[k]), ours);
         }
+    }
+    for (rows, columns, mines) in [(16, 30, 99), (8, 8, 10), (32, 32, 200)] {
+        patterns(&mut random, rows, columns, mines, 2000);
     }
 }

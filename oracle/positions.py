@@ -20,11 +20,14 @@ def size(r, largest):
     return r.choice([(16, 16), (16, 30), (32, 32), (1, 32), (32, 1), (24, 20)]) if largest == 32 else (largest, largest)
 
 
+def numbered(rows, columns, mines):
+    """The board of a layout of mines, with its true numbers; 255 is a mine."""
+    return [255 if mines[c] else sum(mines[d] for d in neighbours(rows, columns, c)) for c in range(rows * columns)]
+
+
 def board(r, rows, columns, density):
-    """A board with true numbers; 255 is a mine."""
-    n = rows * columns
-    mines = [r.random() < density for _ in range(n)]
-    return [255 if mines[c] else sum(mines[d] for d in neighbours(rows, columns, c)) for c in range(n)]
+    """A random board with true numbers."""
+    return numbered(rows, columns, [r.random() < density for _ in range(rows * columns)])
 
 
 def flooded(rows, columns, cells, position, start):
@@ -77,6 +80,35 @@ def damaged(r, largest=32):
     else:
         p[r.randrange(len(p))] = r.choice([9, 13, 14, 100, 254, 255, 256, 1000])
     return 'refused', rows, columns, p
+
+
+def any_board(r, largest=32):
+    """A board for the pattern call, and its kind: the densities from few mines to few safe cells, sizes from 3 x 3 on."""
+    k = r.random()
+    if k < 0.80:
+        rows, columns = r.randint(3, 10), r.randint(3, 10)
+    elif k < 0.95:
+        rows, columns = r.randint(3, largest), r.randint(3, largest)
+    else:
+        rows, columns = r.choice([(3, largest), (largest, 3), (largest, largest), (min(16, largest), min(30, largest))])
+    density = r.uniform(0.05, 0.9)
+    kind = 'few mines' if density < 0.3 else 'many mines' if density < 0.6 else 'mostly mines'
+    return kind, rows, columns, board(r, rows, columns, density)
+
+
+def damaged_board(r):
+    """A line of numbers that the pattern call must refuse, by size, length or cell."""
+    _, rows, columns, cells = any_board(r, 8)
+    how = r.choice(['size', 'length', 'cell'])
+    if how == 'size':
+        rows, columns = r.choice([(2, 3), (3, 2), (33, 3), (3, 33), (0, columns), (rows, 1), (255, 255)])
+        if r.random() < 0.5:
+            cells = board(r, rows, columns, 0.5) if rows * columns <= 1024 else cells
+    elif how == 'length':
+        cells = cells[:-1] if r.random() < 0.5 else cells + [255]
+    else:
+        cells[r.randrange(len(cells))] = r.choice([9, 10, 11, 12, 100, 254, 256, 1000])
+    return 'refused', rows, columns, cells
 
 
 def line(rows, columns, p):

@@ -12,6 +12,7 @@ use Rattle.refusals.specs.declared.Tested.the-variants.{Accepted}
 use Rattle.blocks.specs.BlockSets.{blocksOf}
 use Rattle.frontier.specs.declared.FrontierAnswer.{FrontierAnswer}
 use Rattle.rules.specs.Answers.{Seen}
+use Rattle.patterns.specs.declared.PatternAnswer.{PatternAnswer}
 use Rattle.text.specs.Text.{decimal, Written}
 use Rattle.text.proofs.Writing.{written-within, written-both}
 use Rattle.show.specs.Blocks.{numbersIn, numbersText, blocksText}
@@ -22,6 +23,7 @@ use Rattle.answers.specs.Lines.{lineOf}
 use Rattle.answers.specs.Texts.{unreadableText, refusedText}
 use Rattle.answers.specs.Frontier.{frontierText, answerTo, frontierLine}
 use Rattle.answers.specs.Deductions.{foundText, textAfter, deductionText, Printable, calledOn, deductionLine}
+use Rattle.answers.specs.Patterns.{patternText, patternOf, patternLine}
 
 -- ---- a refusal
 
@@ -101,3 +103,10 @@ module _ (line : List ℕ) (read : Line) (is : read ≡ lineOf line) {b after : 
     unfolding deductionLine
     deduction-line-written rule w told h =
         readable-written (λ l. deductionText (calledOn rule l)) e (subst (λ (x : Seen). Written b 0 (deductionText x) after r) told h)
+
+    -- unsolvable_structure, by which answer it is
+    pub pattern-line-written : {known : PatternAnswer} (answer : PatternAnswer) → answer ≡ patternOf read → answer ≡ known
+        → Written b 0 (patternText known) after r → Written b 0 (patternLine line) after r
+    unfolding patternLine
+    pattern-line-written answer told which w =
+        readable-written (λ l. patternText (patternOf l)) e (subst (λ (a : PatternAnswer). Written b 0 (patternText a) after r) (sym which ∙ told) w)

@@ -3,4 +3,5 @@ pub mod Lines
 pub mod Texts
 pub mod Frontier
 pub mod Deductions
+pub mod Patterns
 pub mod Calls

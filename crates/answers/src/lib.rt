@@ -8,6 +8,8 @@ use deductions::put_deduction;
 use deductions::put_refused;
 use frontier::refresh_matrixs;
 use lines::read_line;
+use patterns::PatternAnswer;
+use patterns::unsolvable_structure;
 use refusals::Tested;
 use show::put_blocks;
 use text::put_bytes;
@@ -15,6 +17,7 @@ use text::put_number;
 ghost use Rattle.text.specs.Text.{Written};
 ghost use Rattle.answers.specs.Frontier.{frontierLine};
 ghost use Rattle.answers.specs.Deductions.{deductionLine};
+ghost use Rattle.answers.specs.Patterns.{patternLine};
 ghost use Rattle.answers.specs.Calls.{callLine};
 
 // The calls that a line may be put to.
@@ -22,6 +25,7 @@ pub enum Call {
     Frontier,
     Direct,
     Minus,
+    Pattern,
 }
 
 // The answer of refresh_matrixs to a line.
@@ -72,6 +76,24 @@ fn deduction_line(rule: Rule, line: &[u8], out: &mut [u8]) -> usize
     put_deduction(out, answer, &cells[..len], &safe, &mines)
 }
 
+// The answer of unsolvable_structure to a line.
+fn pattern_line(line: &[u8], out: &mut [u8]) -> usize
+    ensures { λ r. ⌜ Written (now (out .entry)) 0 (patternLine (now (line .entry))) (now (out .exit)) r ⌝ }
+{
+    let read = read_line(line);
+    if !read.readable {
+        return put_bytes(out, 0, b"unreadable");
+    }
+    let cells = read.cells;
+    let len = read.len;
+    let answer = unsolvable_structure(read.rows, read.columns, &cells[..len]);
+    match answer {
+        PatternAnswer::Refused(refusal) => put_refused(out, refusal),
+        PatternAnswer::NotFound => put_bytes(out, 0, b"false"),
+        PatternAnswer::Found => put_bytes(out, 0, b"true"),
+    }
+}
+
 // What a call answers to a line.
 pub fn call_line(call: Call, line: &[u8], out: &mut [u8]) -> usize
     ensures { λ r. ⌜ Written (now (out .entry)) 0 (callLine call (now (line .entry))) (now (out .exit)) r ⌝ }
@@ -80,5 +102,6 @@ pub fn call_line(call: Call, line: &[u8], out: &mut [u8]) -> usize
         Call::Frontier => frontier_line(line, out),
         Call::Direct => deduction_line(Rule::Direct, line, out),
         Call::Minus => deduction_line(Rule::Minus, line, out),
+        Call::Pattern => pattern_line(line, out),
     }
 }

@@ -15,6 +15,7 @@ use Rattle.rules.specs.Found.{Found}
 use Rattle.rules.specs.Direct.{direct}
 use Rattle.rules.specs.Minus.{subtraction}
 use Rattle.rules.specs.Answers.{Seen, deduction}
+use Rattle.patterns.specs.Answer.{unsolvableStructure, answerRefusal, answerFound}
 use Rattle.fitting.specs.Solver.{ask, solved}
 use Rattle.fitting.specs.Demand.{opened}
 use Rattle.fitting.specs.Passes.{allOpen}
@@ -31,6 +32,8 @@ pub data Case : Type 0 where
   deduced : (rule : List Block → Found) → (rows columns : ℕ) → List ℕ → (safe mines after : List ℕ) → List Block → Case
   -- or refusal 6, which leaves the position
   contradictory : (rule : List Block → Found) → (rows columns : ℕ) → List ℕ → Case
+  -- the pattern call on a board: the number of the refusal, or 0, and whether a pattern is found
+  pattern : (rows columns : ℕ) → List ℕ → (refusal : ℕ) → (found : Bool) → Case
   -- the solver of demand 3 on a board, from the cell s: its position when it is done, its open cells, and whether they are all the safe ones
   solver : (rows columns s : ℕ) → List ℕ → List ℕ → ℕ → Bool → Case
 
@@ -88,6 +91,8 @@ holds (contradictory rule rows columns p) =
     && (same (called rule rows columns p .position) p
     && (listHolds (called rule rows columns p .safe) (called rule rows columns p .answer .safe) []
     && listHolds (called rule rows columns p .mines) (called rule rows columns p .answer .mines) []))
+holds (pattern rows columns b n found) =
+    eqb (answerRefusal (unsolvableStructure rows columns b)) n && Bool·beq (answerFound (unsolvableStructure rows columns b)) found
 holds (solver rows columns s b p n all) = endsWith rows columns s b p && (eqb (opened p) n && Bool·beq (allOpen b p) all)
 
 unfoldable pub table : List Case
@@ -122,6 +127,9 @@ table =
     ∷ solver 1 1 0 (0 ∷ []) (0 ∷ []) 1 true
     -- 9. 3 × 3, all mines but 0,0, start 0,0: 1 opened, all
     ∷ solver 3 3 0 (3 ∷ replicate 8 255) (3 ∷ replicate 8 10) 1 true
+    -- pattern found; below 3 rows it is refusal 1
+    ∷ pattern 3 3 (3 ∷ replicate 8 255) 0 true
+    ∷ pattern 2 3 (3 ∷ replicate 5 255) 1 false
     -- 10. `1 255 1 / 1 1 1`, start 1,0: 1 opened, not all
     ∷ solver 2 3 3 (1 ∷ 255 ∷ 1 ∷ 1 ∷ 1 ∷ 1 ∷ []) (10 ∷ 10 ∷ 10 ∷ 1 ∷ 10 ∷ 10 ∷ []) 1 false
     -- 11. 32 rows accepted, 33 refusal 1

@@ -1,5 +1,7 @@
 // What C and Rust call: numbers and slices only, and nothing is asked of the caller. A slice is a pointer and its length.
 use frontier::refresh_matrixs;
+use patterns::PatternAnswer;
+use patterns::unsolvable_structure;
 use refusals::Tested;
 use refusals::refusal_number;
 use rules::solve_direct;
@@ -8,7 +10,8 @@ ghost use mathlib.Core.Path.{_≡_};
 ghost use Prim.Native.Nat.{_≤_};
 ghost use Rattle.frontier.specs.Answer.{refreshMatrixs};
 ghost use Rattle.rules.specs.Answers.{solveDirect, solveMinus};
-ghost use Rattle.export.specs.Returned.{returned, answerNumber, inNumbers};
+ghost use Rattle.patterns.specs.Answer.{unsolvableStructure};
+ghost use Rattle.export.specs.Returned.{returned, answerNumber, inNumbers, patternNumber};
 
 // How many blocks the frontier of a position has; 0 where the position is refused.
 #[no_mangle]
@@ -61,4 +64,17 @@ pub extern "C" fn minus_cells(
     let answer = solve_minus(rows, columns, position, safe, mines);
     let tested = answer.tested;
     answer_number(tested, answer.safe, answer.mines)
+}
+
+// Whether a board has a pattern: 0 not found, 1 found, or 16 plus the number of the refusal.
+#[no_mangle]
+pub extern "C" fn pattern_found(rows: usize, columns: usize, cells: &[u8]) -> u8
+    ensures { λ r. ⌜ r ≡ patternNumber (unsolvableStructure rows columns (now (cells .entry))) ⌝ }
+{
+    let answer = unsolvable_structure(rows, columns, cells);
+    match answer {
+        PatternAnswer::Refused(refusal) => 16 + refusal_number(refusal),
+        PatternAnswer::NotFound => 0,
+        PatternAnswer::Found => 1,
+    }
 }

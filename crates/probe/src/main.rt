@@ -1,5 +1,5 @@
-// probe CALL: reads lines `R C v v v ..` from standard input and prints, a line each, what the call (frontier, direct or minus) answers, `refused` with the
-// number of a refusal, or `unreadable`. A line of more than 16,384 bytes is unreadable.
+// probe CALL: reads lines `R C v v v ..` from standard input and prints, a line each, what the call (frontier, direct, minus or pattern) answers, `refused` with
+// the number of a refusal, or `unreadable`. A line of more than 16,384 bytes is unreadable.
 use answers::Call;
 use answers::call_line;
 use check::same;
@@ -87,7 +87,11 @@ fn run_named(word: &[u8], chunk: &mut [u8], line: &mut [u8], out: &mut [u8]) {
         run(Call::Minus, chunk, line, out);
         return;
     }
-    io::write_all(2, b"usage: probe frontier|direct|minus < LINES\n");
+    if same(word, b"pattern") {
+        run(Call::Pattern, chunk, line, out);
+        return;
+    }
+    io::write_all(2, b"usage: probe frontier|direct|minus|pattern < LINES\n");
 }
 
 fn main() {

@@ -225,4 +225,12 @@ fn main() {
         &mut answer,
         &mut out,
     );
+    run_file(
+        Call::Pattern,
+        b"pattern",
+        &mut chunk,
+        &mut asked,
+        &mut answer,
+        &mut out,
+    );
 }

@@ -22,6 +22,12 @@ enum-told-3 c = search needs
 deduction-line-requires-2 : tie.Need-deduction-line-requires-2
 deduction-line-requires-2 c κs = search needs
 
+enum-told-4 : tie.Need-enum-told-4
+enum-told-4 c = search needs
+
+pattern-line-requires : tie.Need-pattern-line-requires
+pattern-line-requires c κs = search needs
+
 same-length : tie.Need-same-length
 same-length c = search needs
 
@@ -43,6 +49,13 @@ returns-3 : tie.Need-returns-3
 unfolding callLine
 returns-3 c = rw (c .before .before .before .before .enum-told3 .given .1) (c .before .before .deduction-line2 .ensures)
 
+same-length-4 : tie.Need-same-length-4
+same-length-4 c = search needs
+
+returns-4 : tie.Need-returns-4
+unfolding callLine
+returns-4 c = rw (c .before .before .before .before .enum-told4 .given .1) (c .before .before .pattern-line .ensures)
+
 pub call-line-spec : {M : Type 1} → statement M
 call-line-spec =
     tie.close
@@ -53,9 +66,13 @@ call-line-spec =
     deduction-line-requires
     enum-told-3
     deduction-line-requires-2
+    enum-told-4
+    pattern-line-requires
     same-length
     returns
     same-length-2
     returns-2
     same-length-3
-    returns-3)
+    returns-3
+    same-length-4
+    returns-4)
