@@ -1,121 +1,28 @@
 // The Rust as oracle: the functions of ms-toollib that document 01 names are included unchanged (see build); everything in this file
-// is shim, glue and printing. It reads lines from standard input and prints, a line each, what the named function answers.
+// is glue and printing, verdict.rs is document 01's loop of passes. It reads lines from standard input and prints, a line each, what the named function answers.
 //
 //   oracle frontier | direct | minus | enumerate | table        lines `R C v v v ...`, a position
 //   oracle enumerate-rust                                       the same, with the Rust's own lists (docs/DIFFERENCES.md)
 //   oracle pattern                                              lines `R C v v v ...`, a board, 255 a mine
-//   oracle is_solvable                                          lines `R C r c v v v ...`, a board and its start
+//   oracle is_solvable | verdict                                lines `R C r c v v v ...`, a board and its start
 //   oracle judge [--pictures]                                   records of document 01 from standard input
+//
+// A line or record at which the Rust panics is answered `panic`. Each line goes out at once, so that one who stops waiting has all lines before.
 use std::io::{BufRead, Read, Write};
 
 include!("shim.rs");
+include!("verdict.rs");
 
-type Grid = Vec<Vec<i32>>;
-type Cell = (usize, usize);
-
-// ---- enumeration by document 01's words, in the Rust's order, on the Rust's counts ----
-
-/// The safe cells and the mines, or None where a block has no solution.
-fn enumerate(a: &Vec<Vec<Vec<i32>>>, x: &Vec<Vec<Cell>>, b: &Vec<Vec<i32>>) -> Option<(Vec<Cell>, Vec<Cell>)> {
-    let (mut safe, mut mines) = (vec![], vec![]);
-    for i in 0..x.len() {
-        if b[i].iter().any(|&r| r < 0) {
-            return None;
-        }
-        let (squeezed, cells, groups) = combine(&a[i], &x[i]);
-        let (counts, with) = cal_table_minenum_recursion(&squeezed, &cells, &b[i], &groups).ok()?;
-        let all: usize = counts[1].iter().sum();
-        for j in 0..groups.len() {
-            let mined: usize = with.iter().map(|r| r[j]).sum();
-            for &k in &groups[j] {
-                if mined == 0 {
-                    safe.push(x[i][k]);
-                } else if mined == all {
-                    mines.push(x[i][k]);
-                }
-            }
-        }
-    }
-    Some((safe, mines))
-}
-
-// ---- the verdict of document 01 over the Rust's functions ----
-
-struct Verdict {
-    yes: bool,
-    opened: usize,
-    grade: usize,
-    rounds: usize,
-    picture: Grid,
-}
-
-fn verdict(board: &Grid, start: Cell) -> Verdict {
-    let (rows, columns) = (board.len(), board[0].len());
-    let mut g = vec![vec![10; columns]; rows];
-    let mut v = Verdict { yes: false, opened: 0, grade: 0, rounds: 0, picture: g.clone() };
-    if board[start.0][start.1] == -1 {
-        return v;
-    }
-    let safe_cells = board.iter().flatten().filter(|&&c| c != -1).count();
-    refresh_board(board, &mut g, vec![start]);
-    loop {
-        v.opened = g.iter().flatten().filter(|&&c| c < 10).count();
-        if v.opened == safe_cells {
-            v.yes = true;
-            break;
-        }
-        let mut rule = 1;
-        let (mut a, mut x, mut b, _, _) = refresh_matrixs(&g);
-        let mut found = solve_direct(&mut a, &mut x, &mut b, &mut g).unwrap();
-        if found.0.is_empty() && found.1.is_empty() {
-            rule = 2;
-            let (mut a, mut x, mut b, _, _) = refresh_matrixs(&g);
-            found = solve_minus(&mut a, &mut x, &mut b, &mut g).unwrap();
-        }
-        if found.0.is_empty() && found.1.is_empty() {
-            rule = 3;
-            let (a, x, b, _, _) = refresh_matrixs(&g);
-            found = enumerate(&a, &x, &b).expect("a true position has a layout");
-        }
-        if found.0.is_empty() && found.1.is_empty() {
-            break;
-        }
-        v.rounds += 1;
-        v.grade = max(v.grade, rule);
-        for &(i, j) in &found.0 {
-            g[i][j] = 12;
-        }
-        for &(i, j) in &found.1 {
-            g[i][j] = 11;
-        }
-        refresh_board(board, &mut g, found.0);
-    }
-    v.picture = g.iter().map(|row| row.iter().map(|&c| if c < 10 { c } else { 10 }).collect()).collect();
-    v
-}
-
-// ---- records ----
+// ---- boards and records ----
 
 fn grid(rows: usize, columns: usize, cells: &[u8]) -> Grid {
     let value = |c: u8| if c == 255 { -1 } else { c as i32 };
     (0..rows).map(|i| (0..columns).map(|j| value(cells[i * columns + j])).collect()).collect()
 }
 
-/// A whole record with the known mark: its verdict, or the refusal.
-fn record(r: &[u8]) -> Result<Verdict, usize> {
-    let (rows, columns, row, column) = (r[2] as usize, r[3] as usize, r[4] as usize, r[5] as usize);
-    let cells = &r[6..];
-    if rows < 1 || columns < 1 || rows > 32 || columns > 32 {
-        return Err(1);
-    }
-    if cells.iter().any(|&c| c > 8 && c != 255) {
-        return Err(3);
-    }
-    let first_zero = row == 255 && column == 255;
-    if (row >= rows || column >= columns) && !first_zero {
-        return Err(4);
-    }
-    let board = grid(rows, columns, cells);
+/// Has every safe cell the number of its neighbouring mines?
+fn numbers_right(board: &Grid) -> bool {
+    let (rows, columns) = (board.len(), board[0].len());
     for i in 0..rows {
         for j in 0..columns {
             let mut mines = 0;
@@ -125,44 +32,66 @@ fn record(r: &[u8]) -> Result<Verdict, usize> {
                 }
             }
             if board[i][j] >= 0 && board[i][j] != mines {
-                return Err(5);
+                return false;
             }
         }
     }
-    let start = if first_zero {
-        let place = cells.iter().position(|&c| c == 0).ok_or(7usize)?;
-        (place / columns, place % columns)
-    } else {
-        (row, column)
-    };
-    Ok(verdict(&board, start))
+    true
+}
+
+/// Rows, columns, start row, start column and cells, tested in document 01's order: the verdict, or the refusal.
+fn judged(head: &[i64], cells: &[i64]) -> Result<Verdict, usize> {
+    let (rows, columns, row, column) = (head[0], head[1], head[2], head[3]);
+    if rows < 1 || columns < 1 || rows > 32 || columns > 32 {
+        return Err(1);
+    }
+    if cells.len() as i64 != rows * columns {
+        return Err(2);
+    }
+    if cells.iter().any(|&c| !(0..=8).contains(&c) && c != 255) {
+        return Err(3);
+    }
+    let first_zero = row == 255 && column == 255;
+    let on_board = (0..rows).contains(&row) && (0..columns).contains(&column);
+    if !on_board && !first_zero {
+        return Err(4);
+    }
+    let board = grid(rows as usize, columns as usize, &cells.iter().map(|&c| c as u8).collect::<Vec<_>>());
+    if !numbers_right(&board) {
+        return Err(5);
+    }
+    let start = if first_zero { cells.iter().position(|&c| c == 0).ok_or(7usize)? } else { (row * columns + column) as usize };
+    Ok(verdict(&board, (start / columns as usize, start % columns as usize)))
+}
+
+/// What is answered to these numbers: `refused N`, or verdict, opened cells, grade and rounds, and the picture behind the words given.
+fn judged_text(numbers: &[i64], before_picture: Option<&str>) -> String {
+    match judged(&numbers[..4], &numbers[4..]) {
+        Err(refusal) => format!("refused {}", refusal),
+        Ok(v) => {
+            let picture = before_picture.map_or(String::new(), |words| words.to_string() + &values(&v.picture));
+            format!("{} {} {} {}{}", if v.yes { "yes" } else { "no" }, v.opened, v.grade, v.rounds, picture)
+        }
+    }
 }
 
 fn judge(input: &[u8], pictures: bool, out: &mut dyn Write) {
-    writeln!(out, "board verdict opened grade rounds").unwrap();
+    put_line("board verdict opened grade rounds", out);
+    let before_picture = if pictures { Some("\npos ") } else { None };
     let (mut at, mut number) = (0, 0);
     while at < input.len() {
         number += 1;
         let rest = &input[at..];
         if rest.len() >= 2 && rest[..2] != [0x4D, 0x42] {
-            writeln!(out, "{} refused 10", number).unwrap();
-            return;
+            return put_line(&format!("{} refused 10", number), out);
         }
         if rest.len() < 6 || rest.len() < 6 + rest[2] as usize * rest[3] as usize {
-            writeln!(out, "{} refused 11", number).unwrap();
-            return;
+            return put_line(&format!("{} refused 11", number), out);
         }
         let size = 6 + rest[2] as usize * rest[3] as usize;
-        match record(&rest[..size]) {
-            Err(refusal) => writeln!(out, "{} refused {}", number, refusal).unwrap(),
-            Ok(v) => {
-                let word = if v.yes { "yes" } else { "no" };
-                writeln!(out, "{} {} {} {} {}", number, word, v.opened, v.grade, v.rounds).unwrap();
-                if pictures {
-                    writeln!(out, "{}", position(&v.picture)).unwrap();
-                }
-            }
-        }
+        let numbers: Vec<i64> = rest[2..size].iter().map(|&b| b as i64).collect();
+        let text = std::panic::catch_unwind(|| judged_text(&numbers, before_picture)).unwrap_or("panic".into());
+        put_line(&format!("{} {}", number, text), out);
         at += size;
     }
 }
@@ -189,15 +118,26 @@ fn blocks(a: &Vec<Vec<Vec<i32>>>, x: &Vec<Vec<Cell>>, b: &Vec<Vec<i32>>, columns
     text
 }
 
+fn values(g: &Grid) -> String {
+    g.iter().flatten().map(|c| c.to_string()).collect::<Vec<_>>().join(" ")
+}
+
 fn position(g: &Grid) -> String {
-    format!("pos {}", g.iter().flatten().map(|c| c.to_string()).collect::<Vec<_>>().join(" "))
+    format!("pos {}", values(g))
+}
+
+fn put_line(text: &str, out: &mut dyn Write) {
+    writeln!(out, "{}", text).and_then(|_| out.flush()).unwrap();
 }
 
 /// One line in, one line out.
 fn answer(mode: &str, numbers: &[i64]) -> String {
-    let head = if mode == "is_solvable" { 4 } else { 2 };
+    let head = if mode == "is_solvable" || mode == "verdict" { 4 } else { 2 };
     if numbers.len() < head {
         return "unreadable".into();
+    }
+    if mode == "verdict" {
+        return judged_text(numbers, Some(" picture "));
     }
     let on_board = mode == "pattern" || mode == "is_solvable";
     let least = if mode == "pattern" { 3 } else { 1 };
@@ -278,7 +218,7 @@ fn run() {
             std::io::stdin().lock().read_to_end(&mut input).unwrap();
             judge(&input, words.iter().any(|w| w == "--pictures"), &mut out);
         }
-        "frontier" | "direct" | "minus" | "enumerate" | "enumerate-rust" | "table" | "pattern" | "is_solvable" => {
+        "frontier" | "direct" | "minus" | "enumerate" | "enumerate-rust" | "table" | "pattern" | "is_solvable" | "verdict" => {
             for line in std::io::stdin().lock().lines() {
                 let line = line.unwrap().replace('/', " ");
                 let numbers: Result<Vec<i64>, _> = line.split_whitespace().map(|w| w.parse::<i64>()).collect();
@@ -286,11 +226,11 @@ fn run() {
                     Err(_) => "unreadable".into(),
                     Ok(n) => std::panic::catch_unwind(|| answer(&mode, &n)).unwrap_or("panic".into()),
                 };
-                writeln!(out, "{}", text).unwrap();
+                put_line(&text, &mut out);
             }
         }
         _ => {
-            eprintln!("oracle: the first word is one of frontier direct minus enumerate enumerate-rust table pattern is_solvable judge");
+            eprintln!("oracle: the first word is one of frontier direct minus enumerate enumerate-rust table pattern is_solvable verdict judge");
             std::process::exit(2);
         }
     }

@@ -1,11 +1,18 @@
 """Random boards and positions for comparisons, from a seed: noise, true positions (cells shown at random, or flooded from a start), each also with slips,
 known mines and known safe cells among them, sizes from 1 x 1 to 32 x 32, and lines that a call must refuse."""
-import random
+import collections
+import functools
 
 
 def neighbours(rows, columns, c):
     i, j = divmod(c, columns)
     return [m * columns + n for m in range(max(0, i - 1), min(rows, i + 2)) for n in range(max(0, j - 1), min(columns, j + 2)) if m * columns + n != c]
+
+
+@functools.lru_cache(None)
+def windows(rows, columns):
+    """The neighbours of each cell."""
+    return [neighbours(rows, columns, c) for c in range(rows * columns)]
 
 
 def size(r, largest):
@@ -22,7 +29,7 @@ def size(r, largest):
 
 def numbered(rows, columns, mines):
     """The board of a layout of mines, with its true numbers; 255 is a mine."""
-    return [255 if mines[c] else sum(mines[d] for d in neighbours(rows, columns, c)) for c in range(rows * columns)]
+    return [255 if mines[c] else sum(mines[d] for d in near) for c, near in enumerate(windows(rows, columns))]
 
 
 def board(r, rows, columns, density):
@@ -31,13 +38,15 @@ def board(r, rows, columns, density):
 
 
 def flooded(rows, columns, cells, position, start):
+    """Opens a cell in a position, and from each 0 its neighbours."""
+    near = windows(rows, columns)
     todo = [start]
     while todo:
         c = todo.pop()
         if position[c] in (10, 12):
             position[c] = cells[c]
             if cells[c] == 0:
-                todo += neighbours(rows, columns, c)
+                todo += near[c]
 
 
 def position(r, largest=32):
@@ -67,6 +76,34 @@ def position(r, largest=32):
         for _ in range(r.randint(1, 3)):
             p[r.randrange(n)] = r.choice([0, 1, 2, 3, 8, 10, 11, 12])
     return kind, rows, columns, p
+
+
+def group_counts(rows, columns, p):
+    """How many groups each block of a position has: closed cells that the same open cells touch are a group, and groups that share an open cell are a block."""
+    groups = {tuple(d for d in near if p[d] < 10) for c, near in enumerate(windows(rows, columns)) if p[c] == 10} - {()}
+    leader = {}
+
+    def lead(c):
+        while leader.setdefault(c, c) != c:
+            c = leader[c]
+        return c
+
+    for group in groups:
+        for c in group[1:]:
+            leader[lead(c)] = lead(group[0])
+    return list(collections.Counter(lead(group[0]) for group in groups).values())
+
+
+def most_groups(rows, columns, p):
+    return max(group_counts(rows, columns, p), default=0)
+
+
+def small_blocks(r, most):
+    """A position in which no block has more groups than told, and its kind."""
+    while True:
+        kind, rows, columns, p = position(r)
+        if most_groups(rows, columns, p) <= most:
+            return kind, rows, columns, p
 
 
 def damaged(r, largest=32):

@@ -1,0 +1,174 @@
+"""Random boards with a start for comparisons, from a seed, as records of document 01 and as lines of numbers: sizes from 1 x 1 to 32 x 32, all densities,
+starts on safe cells, zeros and mines and the open start 255,255; boards with faults, one or several; every board of a size; and damaged streams of records."""
+import itertools
+
+import positions
+
+OPEN = (255, 255)
+
+
+def size(r, least):
+    """Small boards, thin ones, any, and the usual and largest ones."""
+    k = r.random()
+    if k < 0.60:
+        return r.randint(least, 9), r.randint(least, 9)
+    if k < 0.75:
+        thin = [r.randint(least, 32), r.randint(least, least + 2)]
+        r.shuffle(thin)
+        return tuple(thin)
+    if k < 0.90:
+        return r.randint(least, 32), r.randint(least, 32)
+    return r.choice([(8, 8), (9, 9), (16, 16), (16, 16), (16, 30), (16, 30), (32, 32), (least, 32), (32, least)])
+
+
+def density(r):
+    """Mostly those of boards in play; none, all mines, and all between."""
+    k = r.random()
+    return r.uniform(0.1, 0.22) if k < 0.4 else r.uniform(0.02, 0.35) if k < 0.75 else r.random() if k < 0.96 else r.choice([0, 1])
+
+
+def board(r, least=1):
+    rows, columns = size(r, least)
+    return rows, columns, positions.board(r, rows, columns, density(r))
+
+
+def started(r, rows, columns, cells):
+    """A start on a board, and its kind."""
+    places = {
+        'start at a zero': [c for c, value in enumerate(cells) if value == 0],
+        'start on a safe cell': [c for c, value in enumerate(cells) if value != 255],
+        'start on a mine': [c for c, value in enumerate(cells) if value == 255],
+        'open start': [],
+    }
+    kind = r.choices(list(places), [5, 4, 1, 2])[0]
+    if places[kind]:
+        return kind, divmod(r.choice(places[kind]), columns)
+    return 'open start', OPEN
+
+
+def judged(r, least=1):
+    """A board with a start: its kind, the four numbers before the cells, and the cells."""
+    rows, columns, cells = board(r, least)
+    kind, start = started(r, rows, columns, cells)
+    return kind, [rows, columns, *start], cells
+
+
+def safe_start(r, least):
+    """A board with a start on a safe cell, mostly a zero."""
+    while True:
+        kind, head, cells = judged(r, least)
+        if kind in ('start at a zero', 'start on a safe cell'):
+            return kind, head, cells
+
+
+# ---- faults, each for a board's four numbers and its cells ----
+
+def wrong_size(r, head, cells):
+    rows, columns = r.choice([(0, head[1]), (head[0], 0), (0, 0), (33, head[1]), (head[0], 33), (33, 33), (255, 1), (64, 40)])
+    return [rows, columns] + head[2:], [r.choice([0, 1, 9, 77, 66, 255]) for _ in range(rows * columns)]
+
+
+def largest_size(r, head, cells):
+    return [255, 255] + head[2:], r.choices([0, 1, 9, 77, 66, 255], k=255 * 255)
+
+
+def wrong_cell(r, head, cells):
+    cells = list(cells)
+    cells[r.randrange(len(cells))] = r.choice([9, 10, 11, 12, 77, 254, r.randint(9, 254)])
+    return head, cells
+
+
+def wrong_start(r, head, cells):
+    rows, columns = head[:2]
+    start = r.choice([(rows, 0), (0, columns), (rows, columns), (255, 0), (0, 255), (254, 254), (255, 254), (r.randint(rows, 255), r.randrange(columns))])
+    return head[:2] + list(start), cells
+
+
+def wrong_number(r, head, cells):
+    cells = list(cells)
+    safe = [c for c, value in enumerate(cells) if value <= 8]
+    if safe:
+        c = r.choice(safe)
+        cells[c] = r.choice([value for value in range(9) if value != cells[c]])
+    return head, cells
+
+
+def no_zero(r, head, cells):
+    """Mines in every second row at every second cell leave no 0."""
+    rows, columns = head[:2]
+    mines = [value == 255 or c // columns % 2 == 0 and c % columns % 2 == 0 for c, value in enumerate(cells)]
+    return head[:2] + list(OPEN), positions.numbered(rows, columns, mines)
+
+
+def wrong_length(r, head, cells):
+    return head, r.choice([cells[:-1], cells + [0], cells + [255], []])
+
+
+def cell_past_a_byte(r, head, cells):
+    cells = list(cells)
+    cells[r.randrange(len(cells))] = r.choice([256, 257, 511, 1000, 65536])
+    return head, cells
+
+
+def start_past_a_byte(r, head, cells):
+    return head[:2] + r.choice([[256, 0], [0, 256], [511, 511], [65535, 255]]), cells
+
+
+IN_RECORDS = [no_zero, wrong_number, wrong_start, wrong_cell, wrong_size, largest_size]
+IN_LINES = [no_zero, wrong_number, wrong_start, start_past_a_byte, wrong_cell, cell_past_a_byte, wrong_length, wrong_size]
+
+
+def faulty(r, faults):
+    """A board with one fault or several: its kind, four numbers and cells."""
+    _, head, cells = judged(r)
+    chosen = r.sample(faults, r.choice([1, 1, 1, 2, 3]))
+    for fault in sorted(chosen, key=faults.index):
+        head, cells = fault(r, head, cells)
+    return 'with a fault' if len(chosen) == 1 else 'with several faults', head, cells
+
+
+# ---- as bytes and as text ----
+
+def record(head, cells):
+    return b'MB' + bytes(head) + bytes(cells)
+
+
+def line(head, cells):
+    return ' '.join(map(str, head + cells))
+
+
+def every(rows, columns):
+    """Every board of a size with every safe start."""
+    for mines in itertools.product([False, True], repeat=rows * columns):
+        cells = positions.numbered(rows, columns, mines)
+        for c, value in enumerate(cells):
+            if value != 255:
+                yield 'mines %2d' % sum(mines), [rows, columns, *divmod(c, columns)], cells
+
+
+# ---- damaged streams ----
+
+def cuts():
+    """A record cut at each of its bytes, alone and behind a whole one; the empty input and one lone byte are among them."""
+    whole = record([3, 4, 0, 0], [0, 1, 2, 2, 1, 2, 255, 255, 1, 255, 4, 255])
+    for end in range(len(whole) + 1):
+        yield 'cut alone', whole[:end]
+        yield 'cut behind another', whole + whole[:end]
+
+
+def damaged(r):
+    """Some records, at the end of which the stream is cut, or stands an unknown mark, a lone byte, or a large record without its cells; and its kind."""
+    whole = [record(*faulty(r, IN_RECORDS)[1:]) if r.random() < 0.2 else record(*judged(r)[1:]) for _ in range(r.randint(0, 3))]
+    last = record(*judged(r)[1:])
+    kind = r.choice(['cut in the head', 'cut in the cells', 'unknown mark', 'lone byte', 'large size without its cells'])
+    if kind == 'cut in the head':
+        end = last[:r.randint(2, 5)]
+    elif kind == 'cut in the cells':
+        end = last[:r.randint(6, len(last) - 1)]
+    elif kind == 'unknown mark':
+        end = r.choice([b'MC', b'NB', b'BM', b'mb', b'\0\0', bytes([r.randrange(77), r.randrange(256)])]) + r.choice([b'', last[2:], last[2:] + last])
+    elif kind == 'lone byte':
+        end = bytes([r.choice([77, 66, 0, 255, r.randrange(256)])])
+    else:
+        end = b'MB' + bytes(r.choice([[33, 33], [255, 255], [1, 33], [200, 32]])) + last[4:10]
+    return kind, b''.join(whole) + end

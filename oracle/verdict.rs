@@ -1,0 +1,85 @@
+// Document 01's verdict over the Rust's functions: its loop of passes, and its words about enumeration on the Rust's counts. The oracle and the benchmark both
+// include this file behind shim.rs.
+type Grid = Vec<Vec<i32>>;
+type Cell = (usize, usize);
+
+// ---- enumeration by document 01's words, in the Rust's order, on the Rust's counts ----
+
+/// The safe cells and the mines, or None where a block has no solution.
+fn enumerate(a: &Vec<Vec<Vec<i32>>>, x: &Vec<Vec<Cell>>, b: &Vec<Vec<i32>>) -> Option<(Vec<Cell>, Vec<Cell>)> {
+    let (mut safe, mut mines) = (vec![], vec![]);
+    for i in 0..x.len() {
+        if b[i].iter().any(|&r| r < 0) {
+            return None;
+        }
+        let (squeezed, cells, groups) = combine(&a[i], &x[i]);
+        let (counts, with) = cal_table_minenum_recursion(&squeezed, &cells, &b[i], &groups).ok()?;
+        let all: usize = counts[1].iter().sum();
+        for j in 0..groups.len() {
+            let mined: usize = with.iter().map(|r| r[j]).sum();
+            for &k in &groups[j] {
+                if mined == 0 {
+                    safe.push(x[i][k]);
+                } else if mined == all {
+                    mines.push(x[i][k]);
+                }
+            }
+        }
+    }
+    Some((safe, mines))
+}
+
+// ---- the verdict of document 01 over the Rust's functions ----
+
+struct Verdict {
+    yes: bool,
+    opened: usize,
+    grade: usize,
+    rounds: usize,
+    picture: Grid,
+}
+
+fn verdict(board: &Grid, start: Cell) -> Verdict {
+    let (rows, columns) = (board.len(), board[0].len());
+    let mut g = vec![vec![10; columns]; rows];
+    let mut v = Verdict { yes: false, opened: 0, grade: 0, rounds: 0, picture: g.clone() };
+    if board[start.0][start.1] == -1 {
+        return v;
+    }
+    let safe_cells = board.iter().flatten().filter(|&&c| c != -1).count();
+    refresh_board(board, &mut g, vec![start]);
+    loop {
+        v.opened = g.iter().flatten().filter(|&&c| c < 10).count();
+        if v.opened == safe_cells {
+            v.yes = true;
+            break;
+        }
+        let mut rule = 1;
+        let (mut a, mut x, mut b, _, _) = refresh_matrixs(&g);
+        let mut found = solve_direct(&mut a, &mut x, &mut b, &mut g).unwrap();
+        if found.0.is_empty() && found.1.is_empty() {
+            rule = 2;
+            let (mut a, mut x, mut b, _, _) = refresh_matrixs(&g);
+            found = solve_minus(&mut a, &mut x, &mut b, &mut g).unwrap();
+        }
+        if found.0.is_empty() && found.1.is_empty() {
+            rule = 3;
+            let (a, x, b, _, _) = refresh_matrixs(&g);
+            found = enumerate(&a, &x, &b).expect("a true position has a layout");
+        }
+        if found.0.is_empty() && found.1.is_empty() {
+            break;
+        }
+        v.rounds += 1;
+        v.grade = max(v.grade, rule);
+        for &(i, j) in &found.0 {
+            g[i][j] = 12;
+        }
+        for &(i, j) in &found.1 {
+            g[i][j] = 11;
+        }
+        refresh_board(board, &mut g, found.0);
+    }
+    v.picture = g.iter().map(|row| row.iter().map(|&c| if c < 10 { c } else { 10 }).collect()).collect();
+    v
+}
