@@ -3,19 +3,24 @@ use mathlib.Core.Path.{_≡_, refl}
 use mathlib.Core.Bool.{true}
 use Rattle.lists.specs.Lists.{all, rotated}
 use Rattle.grid.specs.Window.{around, neighbours}
-use Rattle.refusals.specs.Tests.{sizeOk, lengthOk, roomOk, boardCellsOk, positionCellsOk, startOk, numbersOk, zeroOk, boardTested, positionTested, deductionTested, patternTested}
+use Rattle.refusals.specs.Tests.{sizeOk, lengthOk, roomOk, boardCellsOk, positionCellsOk, startOk, numbersOk, zeroOk, startCell, boardTested, positionTested, deductionTested, patternTested}
 use Rattle.frontier.specs.Frontier.{sources, blockOf, frontier, insideCells, knownMines}
 use Rattle.chunks.specs.Chunks.{chunkMatrix, chunkMatrixes}
 use Rattle.rules.specs.Direct.{sureMines, sureSafe, directLeft, direct}
 use Rattle.rules.specs.Minus.{minusMines, minusSafe, minusLeft, subtraction}
 use Rattle.rules.specs.Answers.{refusedAnswer, written, afterFound}
+use Rattle.solutions.specs.Groups.{firsts, groups, sizes, groupsIn}
+use Rattle.solutions.specs.Solutions.{weighed, solutions}
+use Rattle.solutions.specs.Enumeration.{safeCells, mineCells, enumerated}
+use Rattle.tables.specs.Tables.{tableOf, blockAsked, calAllSolution}
+use Rattle.verdict.specs.Verdict.{judgedFrom, isSolvable}
 use Rattle.patterns.specs.Shapes.{amongMines, framed, foundAt, foundAnywhere, foundInCorner, patternFound}
 use Rattle.patterns.specs.Answer.{unsolvableStructure}
 use Rattle.fitting.specs.Layouts.{fits, freeInEvery}
 use Rattle.fitting.specs.Solver.{ask}
-use Rattle.fitting.specs.Passes.{allOpen}
+use Rattle.fitting.specs.Passes.{orElse, openCells, pass, allOpen, judge}
 use Rattle.cases.specs.Table.{endsWith, holds, table}
 
 pub all-cases : all holds table ≡ true
-unfolding table holds endsWith around neighbours sizeOk lengthOk roomOk boardCellsOk positionCellsOk startOk numbersOk zeroOk boardTested positionTested deductionTested fits freeInEvery ask allOpen rotated sources blockOf frontier insideCells knownMines chunkMatrix chunkMatrixes sureMines sureSafe directLeft direct minusMines minusSafe minusLeft subtraction refusedAnswer written afterFound patternTested amongMines framed foundAt foundAnywhere foundInCorner patternFound unsolvableStructure
+unfolding table holds endsWith around neighbours sizeOk lengthOk roomOk boardCellsOk positionCellsOk startOk numbersOk zeroOk startCell boardTested positionTested deductionTested fits freeInEvery ask allOpen rotated sources blockOf frontier insideCells knownMines chunkMatrix chunkMatrixes sureMines sureSafe directLeft direct minusMines minusSafe minusLeft subtraction refusedAnswer written afterFound patternTested amongMines framed foundAt foundAnywhere foundInCorner patternFound unsolvableStructure firsts groups sizes groupsIn weighed solutions safeCells mineCells enumerated tableOf blockAsked calAllSolution orElse openCells pass judge judgedFrom isSolvable
 all-cases = refl

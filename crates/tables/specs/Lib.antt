@@ -1,0 +1,2 @@
+-- The solution table as a call.
+pub mod Tables

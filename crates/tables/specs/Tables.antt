@@ -1,0 +1,52 @@
+-- cal_all_solution as a call on a position (document 01, "Solution table" and refusals 8 and 9): the table of one block of the fresh frontier. Its rows stand at the
+-- front of the lent table, one after another, a byte for each group; the bytes past the last row keep their values, and a refusal leaves all. Assumes nothing.
+use mathlib.Core.Bool.{cond}
+use mathlib.Core.List.{List, []}
+use Prim.Native.Nat.{ℕ, _*_}
+use lib.Dec.{leb, ltb}
+use lib.ListN.{length, getD}
+use lib.Seq.{sets}
+use Rattle.lists.specs.Lists.{joined}
+use Rattle.grid.specs.Window.{neighbours}
+use Rattle.refusals.specs.declared.Refusal.{Refusal}
+use Rattle.refusals.specs.declared.Refusal.the-variants as refusal
+use Rattle.refusals.specs.declared.Tested.{Tested}
+use Rattle.refusals.specs.declared.Tested.the-variants as test
+use Rattle.refusals.specs.Tests.{positionTested}
+use Rattle.blocks.specs.Blocks.{Block}
+use Rattle.frontier.specs.Frontier.{frontier}
+use Rattle.solutions.specs.Groups.{firsts}
+use Rattle.solutions.specs.Solutions.{solutions}
+use Rattle.tables.specs.declared.TableAnswer.{TableAnswer}
+use Rattle.tables.specs.declared.TableAnswer.the-variants.{Refused, Listed}
+
+-- what the caller sees after the call: the answer, and the lent table
+pub record TableSeen : Type 0 where
+  pub answer : TableAnswer
+  pub table : List ℕ
+
+abbrev pub tableSeen : TableAnswer → List ℕ → TableSeen
+tableSeen a t = record { answer = a; table = t }
+
+-- a refusal leaves the table as it was
+abbrev pub refused : Refusal → List ℕ → TableSeen
+refused r t = tableSeen (Refused r) t
+
+-- the table of a block: refusal 9 where solutions × groups exceeds the lent table's length, else the two counts and the rows
+unfoldable pub tableOf : Block → List ℕ → TableSeen
+tableOf b t =
+    cond (leb (length (solutions b) * length (firsts b)) (length t))
+    (tableSeen (Listed (length (solutions b)) (length (firsts b))) (sets t 0 (joined (solutions b))))
+    (refused refusal.Table t)
+
+-- the block asked for, by its number: refusal 8 where it isn't below the block count
+unfoldable pub blockAsked : List Block → ℕ → List ℕ → TableSeen
+blockAsked bs n t = cond (ltb n (length bs)) (tableOf (getD bs n (record { cells = []; equations = [] })) t) (refused refusal.Block t)
+
+-- refusals 1 to 3 first
+abbrev pub afterTests : Tested → TableSeen → List ℕ → TableSeen
+afterTests test.Accepted w t = w
+afterTests (test.Refused r) w t = refused r t
+
+unfoldable pub calAllSolution : ℕ → ℕ → List ℕ → ℕ → List ℕ → TableSeen
+calAllSolution rows columns p n t = afterTests (positionTested rows columns p) (blockAsked (frontier (neighbours rows columns) p) n t) t
