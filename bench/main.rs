@@ -1,27 +1,14 @@
-// Times our calls beside the Rust's functions, on the same positions in one process. Positions come from played games: random boards, opened by the
-// Rust's own loop, each position kept as it is before a rule reads it. The pattern call is timed on random boards. Every answer that can be compared
-// cheaply is compared on the way.
-use std::time::Instant;
-
+// Times our calls beside the Rust's functions, on the same boards and positions in one process; the two sides take turns, so that whatever else the machine
+// does meets both, and every answer is compared on the way. Boards are random, from a seed; positions come from games that the Rust's rules play on them.
+//
+//   bench [HARD]        HARD is a file of records to judge too, one by one
 include!("../oracle/shim.rs");
+include!("../oracle/verdict.rs");
 
-type Grid = Vec<Vec<i32>>;
-type Cells = Vec<(usize, usize)>;
+mod ours;
+mod values;
 
-/// A rule of the Rust, and the call of ours that reads the frontier and applies it.
-type Rule = fn(&mut Vec<Vec<Vec<i32>>>, &mut Vec<Cells>, &mut Vec<Vec<i32>>, &mut Grid) -> Result<(Cells, Cells), usize>;
-type Call = unsafe extern "C" fn(usize, usize, *mut u8, usize, *mut u16, usize, *mut u16, usize) -> u64;
-
-extern "C" {
-    fn frontier_blocks(rows: usize, columns: usize, position: *const u8, length: usize) -> usize;
-    fn direct_cells(
-        rows: usize, columns: usize, position: *mut u8, length: usize, safe: *mut u16, safe_length: usize, mines: *mut u16, mines_length: usize,
-    ) -> u64;
-    fn minus_cells(
-        rows: usize, columns: usize, position: *mut u8, length: usize, safe: *mut u16, safe_length: usize, mines: *mut u16, mines_length: usize,
-    ) -> u64;
-    fn pattern_found(rows: usize, columns: usize, cells: *const u8, length: usize) -> u8;
-}
+use std::time::Instant;
 
 /// A small generator of its own, so that a seed gives the same boards everywhere.
 struct Random(u64);
@@ -34,7 +21,21 @@ impl Random {
     }
 }
 
-fn board(random: &mut Random, rows: usize, columns: usize, mines: usize) -> Grid {
+/// A board as the Rust has it and as we have it.
+struct Board {
+    rows: usize,
+    columns: usize,
+    start: Cell,
+    grid: Grid,
+    bytes: Vec<u8>,
+}
+
+fn bytes_of(g: &Grid) -> Vec<u8> {
+    g.iter().flatten().map(|&v| v as u8).collect()
+}
+
+/// A random board with so many mines, started at its first 0; None where it has no 0.
+fn board(random: &mut Random, rows: usize, columns: usize, mines: usize) -> Option<Board> {
     let mut g = vec![vec![0; columns]; rows];
     let mut left = mines;
     while left > 0 {
@@ -55,14 +56,64 @@ fn board(random: &mut Random, rows: usize, columns: usize, mines: usize) -> Grid
             }
         }
     }
-    g
+    let c = (0..rows * columns).find(|c| g[c / columns][c % columns] == 0)?;
+    Some(Board { rows, columns, start: (c / columns, c % columns), bytes: bytes_of(&g), grid: g })
 }
 
-/// The positions of one game, each as it is before a pass.
-fn played(board: &Grid, start: (usize, usize), out: &mut Vec<Grid>) {
-    let (rows, columns) = (board.len(), board[0].len());
-    let mut g = vec![vec![10; columns]; rows];
-    refresh_board(board, &mut g, vec![start]);
+fn boards(random: &mut Random, rows: usize, columns: usize, mines: usize, count: usize) -> Vec<Board> {
+    let mut all = vec![];
+    while all.len() < count {
+        all.extend(board(random, rows, columns, mines));
+    }
+    all
+}
+
+// ---- both sides in turns ----
+
+/// Seconds in all, and of the slowest call.
+#[derive(Clone, Copy, Default)]
+struct Time {
+    all: f64,
+    slowest: f64,
+}
+
+fn timed<T>(time: &mut Time, call: impl FnOnce() -> T) -> T {
+    let begin = Instant::now();
+    let answer = call();
+    let seconds = begin.elapsed().as_secs_f64();
+    time.all += seconds;
+    time.slowest = time.slowest.max(seconds);
+    answer
+}
+
+/// Runs both on each of `count` inputs, a hundred at a time, and sees that their answers are equal.
+fn turns<T: PartialEq + std::fmt::Debug>(name: &str, count: usize, rust: impl Fn(usize) -> T, ours: impl Fn(usize) -> T) -> (Time, Time) {
+    let (mut rust_time, mut our_time) = (Time::default(), Time::default());
+    for first in (0..count).step_by(100) {
+        let turn = first..min(first + 100, count);
+        let from_rust: Vec<T> = turn.clone().map(|k| timed(&mut rust_time, || rust(k))).collect();
+        let from_ours: Vec<T> = turn.map(|k| timed(&mut our_time, || ours(k))).collect();
+        assert_eq!(from_rust, from_ours, "the answers of {} differ", name);
+    }
+    (rust_time, our_time)
+}
+
+/// Three rounds of a call, each printed with the mean time of both sides and their ratio.
+fn compare<T: PartialEq + std::fmt::Debug>(name: &str, count: usize, rust: impl Fn(usize) -> T, ours: impl Fn(usize) -> T) {
+    for round in 1..=3 {
+        let (r, o) = turns(name, count, &rust, &ours);
+        let each = 1e6 / count as f64;
+        println!("  {}, round {}: rust {:.2} us, ours {:.2} us, ratio {:.2}", name, round, r.all * each, o.all * each, r.all / o.all);
+    }
+}
+
+// ---- positions of played games ----
+
+/// The positions of one game, each as it is before a pass of the direct rule and subtraction; the last is one at which both find nothing.
+fn played(board: &Board) -> Vec<Grid> {
+    let mut out = vec![];
+    let mut g = vec![vec![10; board.columns]; board.rows];
+    refresh_board(&board.grid, &mut g, vec![board.start]);
     loop {
         out.push(g.clone());
         let (mut a, mut x, mut b, _, _) = refresh_matrixs(&g);
@@ -71,83 +122,176 @@ fn played(board: &Grid, start: (usize, usize), out: &mut Vec<Grid>) {
             found = solve_minus(&mut a, &mut x, &mut b, &mut g).unwrap();
         }
         if found.0.is_empty() && found.1.is_empty() {
-            return;
+            return out;
         }
-        refresh_board(board, &mut g, found.0);
+        refresh_board(&board.grid, &mut g, found.0);
     }
 }
 
-/// What the Rust's rule finds in a fresh frontier of a copy of the position, counted as our call counts it.
-fn rust_counts(rule: Rule, position: &Grid) -> u64 {
+/// A rule of the Rust that marks the position.
+type Rule = fn(&mut Vec<Vec<Vec<i32>>>, &mut Vec<Vec<Cell>>, &mut Vec<Vec<i32>>, &mut Grid) -> Result<(Vec<Cell>, Vec<Cell>), usize>;
+
+/// How many safe cells and mines the Rust's rule finds in a fresh frontier of a copy of the position.
+fn rust_rule(rule: Rule, position: &Grid) -> [u64; 2] {
     let mut g = position.clone();
     let (mut a, mut x, mut b, _, _) = refresh_matrixs(&g);
-    match rule(&mut a, &mut x, &mut b, &mut g) {
-        Ok((safe, mines)) => 65536 * mines.len() as u64 + safe.len() as u64,
-        Err(refusal) => 4294967296 * refusal as u64,
-    }
+    let (safe, mines) = rule(&mut a, &mut x, &mut b, &mut g).unwrap();
+    [safe.len() as u64, mines.len() as u64]
 }
 
-/// What our call finds in a copy of the position.
-fn our_counts(call: Call, rows: usize, columns: usize, position: &[u8], safe: &mut [u16], mines: &mut [u16]) -> u64 {
-    let mut p = position.to_vec();
-    unsafe { call(rows, columns, p.as_mut_ptr(), p.len(), safe.as_mut_ptr(), safe.len(), mines.as_mut_ptr(), mines.len()) }
+/// The frontier, the rules and the table's first block on played positions.
+fn rules(random: &mut Random, rows: usize, columns: usize, mines: usize, games: usize) {
+    let games = boards(random, rows, columns, mines, games);
+    let positions: Vec<Grid> = games.iter().flat_map(played).collect();
+    let stuck: Vec<Grid> = games.iter().filter_map(|g| played(g).pop()).collect();
+    let bytes: Vec<Vec<u8>> = positions.iter().map(bytes_of).collect();
+    let stuck_bytes: Vec<Vec<u8>> = stuck.iter().map(bytes_of).collect();
+    println!("{} positions of {} games, {} x {} with {} mines", positions.len(), games.len(), rows, columns, mines);
+    compare("frontier", positions.len(), |k| refresh_matrixs(&positions[k]).1.len() as u64, |k| ours::frontier(rows, columns, &bytes[k])[0]);
+    compare("direct", positions.len(), |k| rust_rule(solve_direct, &positions[k]), |k| ours::rule(ours::lihvompa_direct, rows, columns, &bytes[k]));
+    compare("minus", positions.len(), |k| rust_rule(solve_minus, &positions[k]), |k| ours::rule(ours::lihvompa_minus, rows, columns, &bytes[k]));
+    let enumerated = |g: &Grid| {
+        let (a, x, b, _, _) = refresh_matrixs(g);
+        let (safe, mines) = enumerate(&a, &x, &b).unwrap();
+        [safe.len() as u64, mines.len() as u64]
+    };
+    println!("{} positions at which both rules find nothing", stuck.len());
+    compare("enumerate", stuck.len(), |k| enumerated(&stuck[k]), |k| ours::rule(ours::lihvompa_enumerate, rows, columns, &stuck_bytes[k]));
 }
 
-/// Runs both on each position, in turns of a hundred, so that whatever else the machine does meets both; sees that their answers are equal, and prints the
-/// mean time of each.
-fn compare<T: PartialEq + std::fmt::Debug>(name: &str, round: usize, count: usize, rust: impl Fn(usize) -> T, mut ours: impl FnMut(usize) -> T) {
-    let (mut rust_time, mut our_time) = (0.0, 0.0);
-    for first in (0..count).step_by(100) {
-        let turn = first..min(first + 100, count);
-        let t = Instant::now();
-        let from_rust: Vec<T> = turn.clone().map(&rust).collect();
-        rust_time += t.elapsed().as_secs_f64();
-        let t = Instant::now();
-        let from_ours: Vec<T> = turn.map(&mut ours).collect();
-        our_time += t.elapsed().as_secs_f64();
-        assert_eq!(from_rust, from_ours, "the counts of {} differ", name);
-    }
-    let each = 1e6 / count as f64;
-    println!("{}, round {}: rust {:.2} us, ours {:.2} us, ratio {:.2}", name, round, rust_time * each, our_time * each, rust_time / our_time);
-}
-
-/// Times the pattern call on random boards.
 fn patterns(random: &mut Random, rows: usize, columns: usize, mines: usize, count: usize) {
-    let boards: Vec<Grid> = (0..count).map(|_| board(random, rows, columns, mines)).collect();
-    let bytes: Vec<Vec<u8>> = boards.iter().map(|g| g.iter().flatten().map(|&v| v as u8).collect()).collect();
-    let ours = |b: &[u8]| unsafe { pattern_found(rows, columns, b.as_ptr(), b.len()) };
-    let found = boards.iter().filter(|g| unsolvable_structure(g)).count();
-    println!("{} boards of {} x {} with {} mines, {} with a pattern", count, rows, columns, mines, found);
-    for round in 1..=3 {
-        compare("pattern", round, count, |k| unsolvable_structure(&boards[k]) as u8, |k| ours(&bytes[k]));
+    let all = boards(random, rows, columns, mines, count);
+    println!("{} boards of {} x {} with {} mines", count, rows, columns, mines);
+    compare("pattern", count, |k| unsolvable_structure(&all[k].grid) as u64, |k| ours::pattern(rows, columns, &all[k].bytes));
+}
+
+// ---- verdicts ----
+
+/// Yes or no, opened cells, grade and rounds by the Rust's functions in document 01's loop.
+fn rust_verdict(b: &Board) -> [u64; 4] {
+    let v = verdict(&b.grid, b.start);
+    [v.yes as u64, v.opened as u64, v.grade as u64, v.rounds as u64]
+}
+
+fn our_verdict(b: &Board) -> [u64; 4] {
+    ours::verdict(b.rows, b.columns, b.start, &b.bytes)
+}
+
+fn print_verdicts(count: usize, solvable: usize, rust: Time, unchanged: Time, ours: Time) {
+    let n = count as f64;
+    println!("  {} of {} solvable; boards a second: rust's functions in the loop {:.0}, is_solvable {:.0}, ours {:.0}", solvable, count, n / rust.all, n / unchanged.all, n / ours.all);
+    println!("  ratio to the loop {:.2}, to is_solvable {:.2}; slowest board: loop {:.0} us, is_solvable {:.0} us, ours {:.0} us",
+        rust.all / ours.all, unchanged.all / ours.all, rust.slowest * 1e6, unchanged.slowest * 1e6, ours.slowest * 1e6);
+}
+
+fn verdicts(random: &mut Random, rows: usize, columns: usize, mines: usize, count: usize) {
+    let all = boards(random, rows, columns, mines, count);
+    println!("verdicts of {} boards of {} x {} with {} mines", count, rows, columns, mines);
+    for _ in 1..=3 {
+        let mut unchanged = Time::default();
+        let (rust, ours) = turns("verdict", count, |k| rust_verdict(&all[k]), |k| our_verdict(&all[k]));
+        let solvable = all.iter().filter(|b| timed(&mut unchanged, || is_solvable(&b.grid, b.start.0, b.start.1))).count();
+        print_verdicts(count, solvable, rust, unchanged, ours);
+    }
+}
+
+/// The boards of a file of records, those started at a cell of theirs.
+fn records(path: &str) -> Vec<Board> {
+    let input = std::fs::read(path).expect("the file of records can be read");
+    let (mut all, mut at) = (vec![], 0);
+    while at + 6 <= input.len() {
+        let (rows, columns) = (input[at + 2] as usize, input[at + 3] as usize);
+        let bytes = input[at + 6..at + 6 + rows * columns].to_vec();
+        let grid: Grid = bytes.chunks(columns).map(|row| row.iter().map(|&v| if v == 255 { -1 } else { v as i32 }).collect()).collect();
+        let zero = bytes.iter().position(|&v| v == 0).unwrap_or(0);
+        let open_start = input[at + 4] == 255 && input[at + 5] == 255;
+        let start = if open_start { (zero / columns, zero % columns) } else { (input[at + 4] as usize, input[at + 5] as usize) };
+        all.push(Board { rows, columns, start, grid, bytes });
+        at += 6 + rows * columns;
+    }
+    all
+}
+
+/// Boards one by one: the groups of the largest block that enumeration meets, values tried by our search and by a walk of the whole tree, and times.
+fn hard(path: &str) {
+    println!("boards of {}", path);
+    for b in records(path) {
+        let (r, o) = turns("verdict", 1, |_| rust_verdict(&b), |_| our_verdict(&b));
+        let (mut groups, mut asked, mut walked) = (0, 0, 0);
+        values::enumerations(&b.grid, b.start, |a, x, rests| {
+            let block = values::Block::new(a, x, rests);
+            groups = max(groups, block.groups());
+            asked += block.asked();
+            walked += block.walked(1 << 28);
+        });
+        println!("  {} x {}, largest block {} groups: values tried {} of {}; rust {:.1} ms, ours {:.3} ms, ratio {:.0}",
+            b.rows, b.columns, groups, asked, walked, r.all * 1e3, o.all * 1e3, r.all / o.all);
+    }
+}
+
+/// Positions of play whose largest block has about so many groups: enumeration beside the Rust's own solve_enumerate.
+fn blocks_of(random: &mut Random, wanted: &[usize]) {
+    let (rows, columns, mines) = (16, 30, 99);
+    println!("enumeration at played positions of {} x {} with {} mines, by the groups of the largest block", rows, columns, mines);
+    let mut found: Vec<Vec<Grid>> = vec![vec![]; wanted.len()];
+    for _ in 0..20000 {
+        let Some(b) = board(random, rows, columns, mines) else { continue };
+        for g in played(&b) {
+            let (a, x, rests, _, _) = refresh_matrixs(&g);
+            let largest = (0..x.len()).map(|i| values::Block::new(&a[i], &x[i], &rests[i]).groups()).max().unwrap_or(0);
+            if let Some(k) = wanted.iter().position(|&w| w == largest) {
+                if found[k].len() < 10 {
+                    found[k].push(g);
+                }
+            }
+        }
+        if found.iter().all(|f| f.len() == 10) {
+            break;
+        }
+    }
+    for (k, positions) in found.iter().enumerate() {
+        let bytes: Vec<Vec<u8>> = positions.iter().map(bytes_of).collect();
+        let unchanged = |g: &Grid| {
+            let (a, x, rests, _, _) = refresh_matrixs(g);
+            solve_enumerate(&a, &x, &rests).0.len() as u64
+        };
+        let n = positions.len();
+        let rounds = 20;
+        let (rust, our) = turns("enumerate", rounds * n, |i| unchanged(&positions[i % n]), |i| ours::rule(ours::lihvompa_enumerate, rows, columns, &bytes[i % n])[0]);
+        let (asked, walked) = positions.iter().map(values_tried).fold((0, 0), |sum, v| (sum.0 + v.0, sum.1 + v.1));
+        let each = 1e3 / (rounds * max(1, n)) as f64;
+        println!("  {} groups, {} positions: values tried {} of {} in all; a position: rust {:.3} ms, ours {:.3} ms, ratio {:.2}",
+            wanted[k], n, asked, walked, rust.all * each, our.all * each, rust.all / our.all);
+    }
+}
+
+/// Values tried at a position by our search, and by a walk of the whole trees.
+fn values_tried(g: &Grid) -> (u64, u64) {
+    let (a, x, rests, _, _) = refresh_matrixs(g);
+    let blocks = (0..x.len()).map(|i| values::Block::new(&a[i], &x[i], &rests[i]));
+    blocks.fold((0, 0), |sum, b| (sum.0 + b.asked(), sum.1 + b.walked(1 << 28)))
+}
+
+fn run() {
+    let mut random = Random(20261115);
+    rules(&mut random, 16, 30, 99, 300);
+    for (rows, columns, mines) in [(16, 30, 99), (8, 8, 10), (32, 32, 200)] {
+        patterns(&mut random, rows, columns, mines, 2000);
+    }
+    for (rows, columns, mines, count) in [(8, 8, 10, 10000), (16, 16, 40, 3000), (16, 30, 99, 2000)] {
+        verdicts(&mut random, rows, columns, mines, count);
+    }
+    println!("growth, a fifth of the cells mines");
+    for side in [8, 12, 16, 20, 24, 28, 32] {
+        verdicts(&mut random, side, side, side * side / 5, 400);
+    }
+    blocks_of(&mut random, &[20, 30, 40, 53]);
+    if let Some(path) = std::env::args().nth(1) {
+        hard(&path);
     }
 }
 
 fn main() {
-    let (rows, columns, mines, games) = (16, 30, 99, 300);
-    let mut random = Random(20261115);
-    let mut positions = vec![];
-    for _ in 0..games {
-        let b = board(&mut random, rows, columns, mines);
-        if let Some(c) = (0..rows * columns).find(|c| b[c / columns][c % columns] == 0) {
-            played(&b, (c / columns, c % columns), &mut positions);
-        }
-    }
-    let bytes: Vec<Vec<u8>> = positions.iter().map(|g| g.iter().flatten().map(|&v| v as u8).collect()).collect();
-    let count = positions.len();
-    println!("{} positions of {} x {} with {} mines", count, rows, columns, mines);
-    let frontier = |p: &[u8]| unsafe { frontier_blocks(rows, columns, p.as_ptr(), p.len()) };
-    for round in 1..=3 {
-        compare("frontier", round, count, |k| refresh_matrixs(&positions[k]).1.len(), |k| frontier(&bytes[k]));
-    }
-    let (mut safe, mut mined) = (vec![0u16; rows * columns], vec![0u16; rows * columns]);
-    for (name, rule, call) in [("direct", solve_direct as Rule, direct_cells as Call), ("minus", solve_minus as Rule, minus_cells as Call)] {
-        for round in 1..=3 {
-            let ours = |k: usize| our_counts(call, rows, columns, &bytes[k], &mut safe, &mut mined);
-            compare(name, round, count, |k| rust_counts(rule, &positions[k]), ours);
-        }
-    }
-    for (rows, columns, mines) in [(16, 30, 99), (8, 8, 10), (32, 32, 200)] {
-        patterns(&mut random, rows, columns, mines, 2000);
-    }
+    // the Rust's recursion over the groups of a block may be deep
+    std::thread::Builder::new().stack_size(256 << 20).spawn(run).unwrap().join().unwrap();
 }

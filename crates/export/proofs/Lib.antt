@@ -1,2 +1,3 @@
--- The law of what C and Rust see of a rule's call.
-pub mod CallReturned
+-- The laws of what C and Rust see of a call.
+pub mod Returning
+pub mod CountedVerdict

@@ -1,33 +1,72 @@
--- What C and Rust see after a rule's call: one number, and each slice that was lent; and after the pattern call: one number. Assumes nothing.
-use mathlib.Core.List.{List}
-use Prim.Native.Nat.{ℕ, _+_, _*_}
+-- What C and Rust see after a call: a number, which is 0 or document 01's number of the refusal; the slices that were lent for cells, in the order of the
+-- parameters; and the slice that was lent for counts. Each call's is given by what a caller in Rattle sees. Assumes nothing.
+use mathlib.Core.List.{List, [], _∷_}
+use Prim.Native.Nat.{ℕ}
+use lib.Seq.{sets}
+use Rattle.lists.specs.Lists.{bit}
 use Rattle.refusals.specs.declared.Tested.{Tested}
-use Rattle.refusals.specs.declared.Tested.the-variants.{Accepted, Refused}
-use Rattle.refusals.specs.Refusals.{refusalNumber}
+use Rattle.refusals.specs.declared.Tested.the-variants as test
+use Rattle.refusals.specs.Refusals.{testedNumber}
+use Rattle.frontier.specs.declared.FrontierAnswer.{FrontierAnswer}
 use Rattle.rules.specs.Answers.{Seen}
+use Rattle.tables.specs.declared.TableAnswer.{TableAnswer}
+use Rattle.tables.specs.declared.TableAnswer.the-variants as table
+use Rattle.tables.specs.Tables.{TableSeen}
 use Rattle.patterns.specs.declared.PatternAnswer.{PatternAnswer}
 use Rattle.patterns.specs.declared.PatternAnswer.the-variants as pattern
+use Rattle.verdict.specs.declared.Verdict.{Verdict}
+use Rattle.verdict.specs.declared.Verdict.the-variants as verdict
+use Rattle.verdict.specs.Verdict.{VerdictSeen}
 
 pub record Returned : Type 0 where
   pub number : ℕ
-  pub position : List ℕ
-  pub safe : List ℕ
-  pub mines : List ℕ
+  pub lent : List (List ℕ)
+  pub counts : List ℕ
 
-abbrev pub returned : ℕ → List ℕ → List ℕ → List ℕ → Returned
-returned n p s m = record { number = n; position = p; safe = s; mines = m }
+abbrev pub returned : ℕ → List (List ℕ) → List ℕ → Returned
+returned number lent counts = record { number = number; lent = lent; counts = counts }
 
--- 65536 times the number of mines plus the number of safe cells; of a refusal, 4294967296 times its number
-abbrev pub answerNumber : Tested → (safe mines : ℕ) → ℕ
-answerNumber Accepted safe mines = 65536 * mines + safe
-answerNumber (Refused r) safe mines = 4294967296 * refusalNumber r
+-- values over the front of a slice, as far as it reaches: what is past its end is not written, and entries past the values stay
+unfoldable pub laid : List ℕ → List ℕ → List ℕ
+laid values slice = sets slice 0 values
 
--- of what a caller in Rattle would see
-unfoldable pub inNumbers : Seen → Returned
-inNumbers w = returned (answerNumber (w .answer .tested) (w .answer .safe) (w .answer .mines)) (w .position) (w .safe) (w .mines)
+-- the lent counts after a call whose tests answered so: a refusal writes none
+abbrev pub counted : Tested → List ℕ → List ℕ → List ℕ
+counted test.Accepted values counts = laid values counts
+counted (test.Refused r) values counts = counts
 
--- of the pattern call: 0 not found, 1 found; of a refusal, 16 plus its number
-abbrev pub patternNumber : PatternAnswer → ℕ
-patternNumber (pattern.Refused r) = 16 + refusalNumber r
-patternNumber pattern.NotFound = 0
-patternNumber pattern.Found = 1
+-- a call with these counts, lent these slices
+unfoldable pub answered : Tested → List ℕ → List (List ℕ) → List ℕ → Returned
+answered t values lent counts = returned (testedNumber t) lent (counted t values counts)
+
+-- the frontier: blocks, inside cells, known mines
+unfoldable pub frontierReturned : FrontierAnswer → List ℕ → Returned
+frontierReturned a counts = answered (a .tested) (a .blocks .blocks ∷ a .«inside_cell» ∷ a .«is_minenum» ∷ []) [] counts
+
+-- a rule: safe cells, mines
+unfoldable pub deductionReturned : Seen → List ℕ → Returned
+deductionReturned w counts =
+    answered (w .answer .tested) (w .answer .safe ∷ w .answer .mines ∷ []) (w .position ∷ w .safe ∷ w .mines ∷ []) counts
+
+-- the solution table: solutions, groups
+unfoldable pub listedReturned : TableAnswer → List ℕ → List ℕ → Returned
+listedReturned (table.Refused r) rows counts = answered (test.Refused r) [] (rows ∷ []) counts
+listedReturned (table.Listed solutions groups) rows counts = answered test.Accepted (solutions ∷ groups ∷ []) (rows ∷ []) counts
+
+unfoldable pub tableReturned : TableSeen → List ℕ → Returned
+tableReturned w counts = listedReturned (w .answer) (w .table) counts
+
+-- the pattern call: 1 where a pattern is found
+unfoldable pub patternReturned : PatternAnswer → List ℕ → Returned
+patternReturned (pattern.Refused r) counts = answered (test.Refused r) [] [] counts
+patternReturned pattern.NotFound counts = answered test.Accepted (0 ∷ []) [] counts
+patternReturned pattern.Found counts = answered test.Accepted (1 ∷ []) [] counts
+
+-- the verdict: 1 for yes, opened cells, grade, rounds
+unfoldable pub judgedReturned : Verdict → List ℕ → List ℕ → Returned
+judgedReturned (verdict.Refused r) shown counts = answered (test.Refused r) [] (shown ∷ []) counts
+judgedReturned (verdict.Judged v opened grade rounds) shown counts =
+    answered test.Accepted (bit v ∷ opened ∷ grade ∷ rounds ∷ []) (shown ∷ []) counts
+
+unfoldable pub verdictReturned : VerdictSeen → List ℕ → Returned
+verdictReturned w counts = judgedReturned (w .answer) (w .shown) counts

@@ -1,4 +1,5 @@
-// What C and Rust call: numbers and slices only, and nothing is asked of the caller. A slice is a pointer and its length.
+// What C and Rust call. Every call answers 0 or document 01's number of the refusal; its counts go to the front of the lent slice `counts`, as many as that
+// has room for. A refusal writes nothing. Numbers and slices only (a slice is a pointer and its length), and nothing is asked of the caller.
 use frontier::refresh_matrixs;
 use patterns::PatternAnswer;
 use patterns::unsolvable_structure;
@@ -6,75 +7,215 @@ use refusals::Tested;
 use refusals::refusal_number;
 use rules::solve_direct;
 use rules::solve_minus;
+use solutions::solve_enumerate;
+use tables::TableAnswer;
+use tables::cal_all_solution;
+use verdict::Verdict;
+use verdict::is_solvable;
 ghost use mathlib.Core.Path.{_≡_};
-ghost use Prim.Native.Nat.{_≤_};
+ghost use mathlib.Core.Logic.{_≢_};
+ghost use mathlib.Core.List.{[], _∷_};
+ghost use Prim.Native.Nat.{_<_};
+ghost use lib.Dec.{eqb};
+ghost use lib.ListN.{length, getD, set};
+ghost use Rattle.lists.specs.Lists.{bit as bitOf};
+ghost use Rattle.grid.specs.Cells.{cellOf};
+ghost use Rattle.grid.specs.Window.{neighbours};
+ghost use Rattle.refusals.specs.declared.Tested.the-variants.{Accepted};
+ghost use Rattle.refusals.specs.Tests.{boardTested, startCell};
+ghost use Rattle.fitting.specs.Demand.{Demand3};
 ghost use Rattle.frontier.specs.Answer.{refreshMatrixs};
 ghost use Rattle.rules.specs.Answers.{solveDirect, solveMinus};
+ghost use Rattle.solutions.specs.Calls.{solveEnumerate};
+ghost use Rattle.tables.specs.Tables.{calAllSolution};
 ghost use Rattle.patterns.specs.Answer.{unsolvableStructure};
-ghost use Rattle.export.specs.Returned.{returned, answerNumber, inNumbers, patternNumber};
+ghost use Rattle.verdict.specs.Verdict.{isSolvable};
+ghost use Rattle.export.specs.Returned.{returned, answered, frontierReturned, deductionReturned, tableReturned, patternReturned, verdictReturned};
 
-// How many blocks the frontier of a position has; 0 where the position is refused.
-#[no_mangle]
-pub extern "C" fn frontier_blocks(rows: usize, columns: usize, position: &[u8]) -> usize
-    ensures { λ r. ⌜ r ≡ refreshMatrixs rows columns (now (position .entry)) .blocks .blocks ⌝ }
+// A count at its place in the lent slice, where there is room for it.
+fn put_count(counts: &mut [u64], at: usize, value: usize)
+    ensures { λ _. ⌜ now (counts .exit) ≡ set (now (counts .entry)) at value ⌝ }
 {
-    let answer = refresh_matrixs(rows, columns, position);
-    let set = answer.blocks;
-    set.blocks
-}
-
-// A rule's answer in one number: 65536 times the number of mines plus the number of safe cells, or 4294967296 times the number of the refusal.
-fn answer_number(tested: Tested, safe: usize, mines: usize) -> u64
-    requires { ⌜ (safe ≤ 1024) × (mines ≤ 1024) ⌝ }
-    ensures { λ r. ⌜ r ≡ answerNumber tested safe mines ⌝ }
-{
-    match tested {
-        Tested::Accepted => 65536 * (mines as u64) + (safe as u64),
-        Tested::Refused(refusal) => 4294967296 * (refusal_number(refusal) as u64),
+    if at < counts.len() {
+        counts[at] = value as u64;
     }
 }
 
-// solve_direct: the safe cells and the mines that it finds go to the two lists and are marked in the position.
+// 1 where a test passes, else 0.
+fn bit(passes: bool) -> usize
+    ensures { λ r. ⌜ r ≡ bitOf passes ⌝ }
+{
+    if passes { 1 } else { 0 }
+}
+
+// A rule's answer: the refusal's number, or 0 and the counts of the two lists.
+fn put_deduction(tested: Tested, safe: usize, mines: usize, counts: &mut [u64]) -> u8
+    ensures { λ r. ⌜ returned r [] (now (counts .exit)) ≡ answered tested (safe ∷ mines ∷ []) [] (now (counts .entry)) ⌝ }
+{
+    match tested {
+        Tested::Refused(refusal) => refusal_number(refusal),
+        Tested::Accepted => {
+            put_count(counts, 0, safe);
+            put_count(counts, 1, mines);
+            0
+        }
+    }
+}
+
+// refresh_matrixs. Counts: blocks, inside cells, known mines.
 #[no_mangle]
-pub extern "C" fn direct_cells(
+pub extern "C" fn lihvompa_frontier(
+    rows: usize,
+    columns: usize,
+    position: &[u8],
+    counts: &mut [u64],
+) -> u8
+    ensures { λ r. ⌜ returned r [] (now (counts .exit)) ≡ frontierReturned (refreshMatrixs rows columns (now (position .entry))) (now (counts .entry)) ⌝ }
+{
+    let answer = refresh_matrixs(rows, columns, position);
+    let tested = answer.tested;
+    match tested {
+        Tested::Refused(refusal) => refusal_number(refusal),
+        Tested::Accepted => {
+            let set = answer.blocks;
+            put_count(counts, 0, set.blocks);
+            put_count(counts, 1, answer.inside_cell);
+            put_count(counts, 2, answer.is_minenum);
+            0
+        }
+    }
+}
+
+// solve_direct: the lists go to the two slices, and their cells are marked in the position. Counts: safe cells, mines.
+#[no_mangle]
+pub extern "C" fn lihvompa_direct(
     rows: usize,
     columns: usize,
     position: &mut [u8],
     safe: &mut [u16],
     mines: &mut [u16],
-) -> u64
-    ensures { λ r. ⌜ returned r (now (position .exit)) (now (safe .exit)) (now (mines .exit)) ≡ inNumbers (solveDirect rows columns (now (position .entry)) (now (safe .entry)) (now (mines .entry))) ⌝ }
+    counts: &mut [u64],
+) -> u8
+    ensures { λ r. ⌜ returned r (now (position .exit) ∷ now (safe .exit) ∷ now (mines .exit) ∷ []) (now (counts .exit))
+        ≡ deductionReturned (solveDirect rows columns (now (position .entry)) (now (safe .entry)) (now (mines .entry))) (now (counts .entry)) ⌝ }
 {
     let answer = solve_direct(rows, columns, position, safe, mines);
     let tested = answer.tested;
-    answer_number(tested, answer.safe, answer.mines)
+    put_deduction(tested, answer.safe, answer.mines, counts)
 }
 
 // solve_minus, likewise.
 #[no_mangle]
-pub extern "C" fn minus_cells(
+pub extern "C" fn lihvompa_minus(
     rows: usize,
     columns: usize,
     position: &mut [u8],
     safe: &mut [u16],
     mines: &mut [u16],
-) -> u64
-    ensures { λ r. ⌜ returned r (now (position .exit)) (now (safe .exit)) (now (mines .exit)) ≡ inNumbers (solveMinus rows columns (now (position .entry)) (now (safe .entry)) (now (mines .entry))) ⌝ }
+    counts: &mut [u64],
+) -> u8
+    ensures { λ r. ⌜ returned r (now (position .exit) ∷ now (safe .exit) ∷ now (mines .exit) ∷ []) (now (counts .exit))
+        ≡ deductionReturned (solveMinus rows columns (now (position .entry)) (now (safe .entry)) (now (mines .entry))) (now (counts .entry)) ⌝ }
 {
     let answer = solve_minus(rows, columns, position, safe, mines);
     let tested = answer.tested;
-    answer_number(tested, answer.safe, answer.mines)
+    put_deduction(tested, answer.safe, answer.mines, counts)
 }
 
-// Whether a board has a pattern: 0 not found, 1 found, or 16 plus the number of the refusal.
+// solve_enumerate, likewise.
 #[no_mangle]
-pub extern "C" fn pattern_found(rows: usize, columns: usize, cells: &[u8]) -> u8
-    ensures { λ r. ⌜ r ≡ patternNumber (unsolvableStructure rows columns (now (cells .entry))) ⌝ }
+pub extern "C" fn lihvompa_enumerate(
+    rows: usize,
+    columns: usize,
+    position: &mut [u8],
+    safe: &mut [u16],
+    mines: &mut [u16],
+    counts: &mut [u64],
+) -> u8
+    ensures { λ r. ⌜ returned r (now (position .exit) ∷ now (safe .exit) ∷ now (mines .exit) ∷ []) (now (counts .exit))
+        ≡ deductionReturned (solveEnumerate rows columns (now (position .entry)) (now (safe .entry)) (now (mines .entry))) (now (counts .entry)) ⌝ }
+{
+    let answer = solve_enumerate(rows, columns, position, safe, mines);
+    let tested = answer.tested;
+    put_deduction(tested, answer.safe, answer.mines, counts)
+}
+
+// cal_all_solution: the rows of a block's solutions go to the front of the table. Counts: solutions, groups.
+#[no_mangle]
+pub extern "C" fn lihvompa_table(
+    rows: usize,
+    columns: usize,
+    position: &[u8],
+    block: usize,
+    table: &mut [u8],
+    counts: &mut [u64],
+) -> u8
+    ensures { λ r. ⌜ returned r (now (table .exit) ∷ []) (now (counts .exit))
+        ≡ tableReturned (calAllSolution rows columns (now (position .entry)) block (now (table .entry))) (now (counts .entry)) ⌝ }
+{
+    let answer = cal_all_solution(rows, columns, position, block, table);
+    match answer {
+        TableAnswer::Refused(refusal) => refusal_number(refusal),
+        TableAnswer::Listed(solutions, groups) => {
+            put_count(counts, 0, solutions);
+            put_count(counts, 1, groups);
+            0
+        }
+    }
+}
+
+// unsolvable_structure. Counts: 1 where a pattern is found, else 0.
+#[no_mangle]
+pub extern "C" fn lihvompa_pattern(
+    rows: usize,
+    columns: usize,
+    cells: &[u8],
+    counts: &mut [u64],
+) -> u8
+    ensures { λ r. ⌜ returned r [] (now (counts .exit)) ≡ patternReturned (unsolvableStructure rows columns (now (cells .entry))) (now (counts .entry)) ⌝ }
 {
     let answer = unsolvable_structure(rows, columns, cells);
     match answer {
-        PatternAnswer::Refused(refusal) => 16 + refusal_number(refusal),
-        PatternAnswer::NotFound => 0,
-        PatternAnswer::Found => 1,
+        PatternAnswer::Refused(refusal) => refusal_number(refusal),
+        PatternAnswer::NotFound => {
+            put_count(counts, 0, 0);
+            0
+        }
+        PatternAnswer::Found => {
+            put_count(counts, 0, 1);
+            0
+        }
+    }
+}
+
+// is_solvable. Counts: 1 for yes or 0 for no, opened cells, grade, rounds. A caller that lends room for the first two has demand 3 of them and of the picture.
+#[no_mangle]
+pub extern "C" fn lihvompa_verdict(
+    rows: usize,
+    columns: usize,
+    start_row: usize,
+    start_column: usize,
+    cells: &[u8],
+    picture: &mut [u8],
+    counts: &mut [u64],
+) -> u8
+    ensures { λ r. ⌜ returned r (now (picture .exit) ∷ []) (now (counts .exit))
+        ≡ verdictReturned (isSolvable rows columns «start_row» «start_column» (now (cells .entry)) (now (picture .entry))) (now (counts .entry)) ⌝ }
+    ensures { λ r. ⌜ (boardTested rows columns «start_row» «start_column» (now (cells .entry)) (length (now (picture .entry))) ≡ Accepted
+        → cellOf (now (cells .entry)) (startCell columns «start_row» «start_column» (now (cells .entry))) ≢ 255
+        → 1 < length (now (counts .entry))
+        → Demand3 (neighbours rows columns) (now (cells .entry)) (startCell columns «start_row» «start_column» (now (cells .entry)))
+        (eqb (getD (now (counts .exit)) 0 0) 1) (getD (now (counts .exit)) 1 0) (now (picture .exit))) ⌝ }
+{
+    let verdict = is_solvable(rows, columns, start_row, start_column, cells, picture);
+    match verdict {
+        Verdict::Refused(refusal) => refusal_number(refusal),
+        Verdict::Judged(yes, opened, grade, rounds) => {
+            put_count(counts, 0, bit(yes));
+            put_count(counts, 1, opened);
+            put_count(counts, 2, grade);
+            put_count(counts, 3, rounds);
+            0
+        }
     }
 }

@@ -1,0 +1,168 @@
+//! Document 01's small boards, 1 to 11, its record example and its refusals, and boards worked out by hand, through the safe functions.
+use lihvompa::{direct, enumerate, frontier, minus, pattern, table, verdict, Deduction, Frontier, Refusal, FIRST_ZERO};
+
+fn found(safe: &[u16], mines: &[u16], position: &[u8]) -> Result<Deduction, Refusal> {
+    Ok(Deduction { safe: safe.to_vec(), mines: mines.to_vec(), position: position.to_vec() })
+}
+
+/// Yes or no, opened cells, grade, rounds.
+fn judged(rows: usize, columns: usize, start: (usize, usize), cells: &[u8]) -> (bool, usize, usize, usize) {
+    let v = verdict(rows, columns, start, cells).unwrap();
+    assert_eq!(v.picture.len(), cells.len());
+    assert_eq!(v.picture.iter().filter(|&&cell| cell <= 8).count(), v.opened);
+    (v.yes, v.opened, v.grade, v.rounds)
+}
+
+#[test]
+fn case_1_direct_finds_a_mine() {
+    let position = [1, 10, 10];
+    assert_eq!(frontier(1, 3, &position), Ok(Frontier { blocks: 1, inside_cells: 1, known_mines: 0 }));
+    assert_eq!(direct(1, 3, &position), found(&[], &[1], &[1, 11, 10]));
+}
+
+#[test]
+fn case_2_direct_finds_a_safe_cell() {
+    assert_eq!(direct(1, 2, &[0, 10]), found(&[1], &[], &[0, 12]));
+}
+
+#[test]
+fn case_3_a_negative_remainder_is_refused() {
+    let position = [11, 0, 10];
+    assert_eq!(frontier(1, 3, &position), Ok(Frontier { blocks: 1, inside_cells: 0, known_mines: 1 }));
+    assert_eq!(direct(1, 3, &position), Err(Refusal::Contradiction));
+}
+
+#[test]
+fn case_4_no_rule_finds_a_cell() {
+    let position = [10, 1, 10];
+    for rule in [direct, minus, enumerate] {
+        assert_eq!(rule(1, 3, &position), found(&[], &[], &position));
+    }
+    let t = table(1, 3, &position, 0, 1).unwrap();
+    assert_eq!((t.solutions, t.groups, t.row(0)), (1, 1, &[1][..]));
+}
+
+#[test]
+fn case_5_a_table_of_two_rows() {
+    let t = table(1, 5, &[10, 1, 10, 1, 10], 0, 100).unwrap();
+    assert_eq!((t.solutions, t.groups, t.row(0), t.row(1)), (2, 3, &[0, 1, 0][..], &[1, 0, 1][..]));
+    assert_eq!(t.bytes.len(), 6);
+}
+
+#[test]
+fn case_6_subtraction_finds_what_direct_does_not() {
+    let position = [10, 10, 10, 1, 1, 1];
+    assert_eq!(direct(2, 3, &position), found(&[], &[], &position));
+    assert_eq!(minus(2, 3, &position), found(&[0, 2], &[1], &[12, 11, 12, 1, 1, 1]));
+}
+
+#[test]
+fn case_7_a_table_needs_its_room() {
+    let position = [10, 10, 10, 1, 1, 1];
+    assert_eq!(table(2, 3, &position, 0, 3).unwrap().bytes, [0, 1, 0]);
+    assert_eq!(table(2, 3, &position, 0, 2), Err(Refusal::Table));
+    assert_eq!(table(2, 3, &position, 0, 0), Err(Refusal::Table));
+    assert_eq!(table(2, 3, &position, 1, 3), Err(Refusal::Block));
+}
+
+#[test]
+fn case_8_one_cell() {
+    assert_eq!(judged(1, 1, (0, 0), &[0]), (true, 1, 0, 0));
+}
+
+#[test]
+fn case_9_all_mines_but_the_start() {
+    let mut board = [255; 9];
+    board[0] = 3;
+    assert_eq!(judged(3, 3, (0, 0), &board), (true, 1, 0, 0));
+    assert_eq!(pattern(3, 3, &board), Ok(true));
+}
+
+#[test]
+fn case_10_stuck_at_the_start() {
+    let v = verdict(2, 3, (1, 0), &[1, 255, 1, 1, 1, 1]).unwrap();
+    assert_eq!((v.yes, v.opened), (false, 1));
+    assert_eq!(v.picture, [10, 10, 10, 1, 10, 10]);
+}
+
+#[test]
+fn case_11_thirty_two_rows() {
+    assert!(verdict(32, 1, (0, 0), &[0; 32]).unwrap().yes);
+    assert_eq!(verdict(33, 1, (0, 0), &[0; 33]), Err(Refusal::Size));
+    assert!(frontier(32, 1, &[10; 32]).is_ok());
+    assert_eq!(frontier(33, 1, &[10; 33]), Err(Refusal::Size));
+}
+
+#[test]
+fn the_record_example() {
+    assert_eq!(judged(1, 3, (0, 2), &[255, 1, 0]), (true, 2, 0, 0));
+    assert_eq!(judged(1, 3, (0, 0), &[1, 255, 1]), (false, 1, 1, 1));
+    assert_eq!(verdict(0, 1, (0, 0), &[]), Err(Refusal::Size));
+}
+
+#[test]
+fn boards_by_hand() {
+    // the 0s open every safe cell
+    assert_eq!(judged(3, 3, (2, 2), &[255, 1, 0, 1, 1, 0, 0, 0, 0]), (true, 8, 0, 0));
+    // direct finds the mine, and nothing beyond it
+    assert_eq!(judged(1, 5, (0, 0), &[0, 1, 255, 1, 0]), (false, 2, 1, 1));
+    // the 0s of the last row open the second; there subtraction finds the rest, as in case 6
+    let board = [1, 255, 1, 1, 1, 1, 0, 0, 0];
+    assert_eq!(judged(3, 3, (2, 0), &board), (true, 8, 2, 1));
+    assert_eq!(judged(3, 3, FIRST_ZERO, &board), (true, 8, 2, 1));
+}
+
+#[test]
+fn a_start_on_a_mine_opens_nothing() {
+    let v = verdict(1, 3, (0, 0), &[255, 1, 0]).unwrap();
+    assert_eq!((v.yes, v.opened, v.grade, v.rounds), (false, 0, 0, 0));
+    assert_eq!(v.picture, [10, 10, 10]);
+}
+
+#[test]
+fn each_refusal_of_a_board() {
+    assert_eq!(verdict(1, 3, (0, 0), &[255, 1]), Err(Refusal::Length));
+    assert_eq!(verdict(1, 3, (0, 0), &[255, 1, 10]), Err(Refusal::Cell));
+    assert_eq!(verdict(1, 3, (0, 3), &[255, 1, 0]), Err(Refusal::Start));
+    assert_eq!(verdict(1, 3, (0, 0), &[255, 2, 0]), Err(Refusal::Number));
+    assert_eq!(verdict(1, 3, FIRST_ZERO, &[1, 255, 1]), Err(Refusal::NoZero));
+    assert_eq!(judged(1, 3, FIRST_ZERO, &[255, 1, 0]), (true, 2, 0, 0));
+    assert_eq!(verdict(usize::MAX, usize::MAX, (0, 0), &[0]), Err(Refusal::Size));
+}
+
+#[test]
+fn each_refusal_of_a_position_and_a_pattern() {
+    assert_eq!(direct(1, 2, &[]), Err(Refusal::Length));
+    assert_eq!(minus(1, 1, &[9]), Err(Refusal::Cell));
+    assert_eq!(enumerate(1, 3, &[11, 0, 10]), Err(Refusal::Contradiction));
+    assert_eq!(table(1, 3, &[10, 1, 13], 0, 9), Err(Refusal::Cell));
+    assert_eq!(pattern(2, 3, &[3, 255, 255, 255, 255, 255]), Err(Refusal::Size));
+    assert_eq!(pattern(3, 3, &[0; 8]), Err(Refusal::Length));
+    assert_eq!(pattern(3, 3, &[0; 9]), Ok(false));
+}
+
+#[test]
+fn calls_from_several_threads_agree() {
+    let alone = verdict(2, 3, (1, 0), &[1, 255, 1, 1, 1, 1]);
+    let threads: Vec<_> = (0..4).map(|_| std::thread::spawn(|| verdict(2, 3, (1, 0), &[1, 255, 1, 1, 1, 1]))).collect();
+    for thread in threads {
+        assert_eq!(thread.join().unwrap(), alone);
+    }
+}
+
+/// The largest size, 0s with two closed cells after each: one block of 683 groups, and every closed cell is safe.
+#[test]
+fn a_stack_of_one_mebibyte_is_enough() {
+    let position: Vec<u8> = (0..1024).map(|cell| if (cell / 32 + cell % 32) % 3 == 0 { 0 } else { 10 }).collect();
+    let closed = position.iter().filter(|&&cell| cell == 10).count();
+    let calls = move || {
+        for rule in [direct, minus, enumerate] {
+            let found = rule(32, 32, &position).unwrap();
+            assert_eq!((found.safe.len(), found.mines.len()), (closed, 0));
+        }
+        let t = table(32, 32, &position, 0, closed).unwrap();
+        assert_eq!((t.solutions, t.groups, t.row(0)), (1, closed, &vec![0; closed][..]));
+        assert_eq!(judged(32, 32, (0, 0), &[0; 1024]), (true, 1024, 0, 0));
+    };
+    std::thread::Builder::new().stack_size(1 << 20).spawn(calls).unwrap().join().unwrap();
+}
