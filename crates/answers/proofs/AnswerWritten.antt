@@ -22,7 +22,7 @@ use Rattle.answers.specs.declared.deductions.Rule.{Rule}
 use Rattle.answers.specs.Lines.{lineOf}
 use Rattle.answers.specs.Texts.{unreadableText, refusedText}
 use Rattle.answers.specs.Frontier.{frontierText, answerTo, frontierLine}
-use Rattle.answers.specs.Deductions.{foundText, textAfter, deductionText, Printable, calledOn, deductionLine}
+use Rattle.answers.specs.Deductions.{foundText, leftText, textAfter, deductionText, Printable, calledOn, deductionLine}
 use Rattle.answers.specs.Patterns.{patternText, patternOf, patternLine}
 
 -- ---- a refusal
@@ -38,25 +38,29 @@ refused-written e word number = written-both (omega arith) word (rw e at number)
 first-numbers : (l : List ℕ) (n : ℕ) → n ≤ length l → numbersText (numbersIn l 0 n) ≡ numbersText (take n l)
 first-numbers l n h = let e : n - 0 ≡ n = omega arith in ap numbersText (rw e (read-range l 0 0 n (omega arith)))
 
-module _ {b safe : List ℕ} {i : ℕ} {safe-list : List ℕ} {j : ℕ} {mine : List ℕ} {k : ℕ} {mine-list : List ℕ} {l : ℕ} {word : List ℕ} {m : ℕ} {cells : List ℕ} {n : ℕ}
-    {gap : List ℕ} {o : ℕ} {after : List ℕ} {r : ℕ} where
-  pub found-written : (w : Seen) → Printable w
-      → Written b 0 (115 ∷ 97 ∷ 102 ∷ 101 ∷ 32 ∷ []) safe i → Written safe i (numbersText (numbersIn (w .safe) 0 (w .answer .safe))) safe-list j
-      → Written safe-list j (32 ∷ 109 ∷ 105 ∷ 110 ∷ 101 ∷ 32 ∷ []) mine k → Written mine k (numbersText (numbersIn (w .mines) 0 (w .answer .mines))) mine-list l
-      → Written mine-list l (32 ∷ 112 ∷ 111 ∷ 115 ∷ []) word m → Written word m (cellsText (w .position)) cells n
-      → Written cells n (32 ∷ []) gap o → Written gap o (blocksText (blocksOf (w .answer .blocks))) after r
-      → Written b 0 (foundText w) after r
-  unfolding foundText
-  found-written w ok first firsts second seconds third thirds fourth fourths =
-      written-both (omega arith) (written-both (omega arith) first (rw (first-numbers (w .safe) (w .answer .safe) (ok .safe-within)) at firsts))
-      (written-both (written-within firsts) (written-both (written-within firsts) second (rw (first-numbers (w .mines) (w .answer .mines) (ok .mines-within)) at seconds))
-      (written-both (written-within seconds) (written-both (written-within seconds) third thirds) (written-both (written-within thirds) fourth fourths)))
+module _ {b safe : List ℕ} {i : ℕ} {safe-list : List ℕ} {j : ℕ} {mine : List ℕ} {k : ℕ} {mine-list : List ℕ} {l : ℕ} {word : List ℕ} {m : ℕ} {after : List ℕ} {r : ℕ}
+  where
+    pub found-written : (w : Seen) → Printable w
+        → Written b 0 (115 ∷ 97 ∷ 102 ∷ 101 ∷ 32 ∷ []) safe i → Written safe i (numbersText (numbersIn (w .safe) 0 (w .answer .safe))) safe-list j
+        → Written safe-list j (32 ∷ 109 ∷ 105 ∷ 110 ∷ 101 ∷ 32 ∷ []) mine k → Written mine k (numbersText (numbersIn (w .mines) 0 (w .answer .mines))) mine-list l
+        → Written mine-list l (32 ∷ 112 ∷ 111 ∷ 115 ∷ []) word m → Written word m (cellsText (w .position)) after r
+        → Written b 0 (foundText w) after r
+    unfolding foundText
+    found-written w ok first firsts second seconds third thirds =
+        written-both (omega arith) (written-both (omega arith) first (rw (first-numbers (w .safe) (w .answer .safe) (ok .safe-within)) at firsts))
+        (written-both (written-within firsts) (written-both (written-within firsts) second (rw (first-numbers (w .mines) (w .answer .mines) (ok .mines-within)) at seconds))
+        (written-both (written-within seconds) third thirds))
+
+-- and the blocks left behind it
+pub accepted-deduction : {b found : List ℕ} {s : ℕ} {after : List ℕ} {r : ℕ} (rule : Rule) (w : Seen)
+    → Written b 0 (foundText w) found s → Written found s (leftText rule (w .answer .blocks)) after r → Written b 0 (textAfter rule Accepted w) after r
+accepted-deduction rule w lists left = written-both (omega arith) lists left
 
 -- what its caller sees, by the answer of the tests
-pub deduction-written : {b : List ℕ} {after : List ℕ} {r : ℕ} {t : Tested} (w : Seen) → w .answer .tested ≡ t
-    → Written b 0 (textAfter t w) after r → Written b 0 (deductionText w) after r
+pub deduction-written : {b : List ℕ} {after : List ℕ} {r : ℕ} {t : Tested} (rule : Rule) (w : Seen) → w .answer .tested ≡ t
+    → Written b 0 (textAfter rule t w) after r → Written b 0 (deductionText rule w) after r
 unfolding deductionText
-deduction-written {b} {after} {r} w e h = subst (λ (x : Tested). Written b 0 (textAfter x w) after r) (sym e) h
+deduction-written {b} {after} {r} rule w e h = subst (λ (x : Tested). Written b 0 (textAfter rule x w) after r) (sym e) h
 
 -- ---- the frontier's answer
 
@@ -78,18 +82,26 @@ frontier-written {b} {after} {r} answer e h = subst (λ (x : Tested). Written b 
 
 -- ---- the answer to a line
 
--- where `text` is the text for a line that is readable
+-- however the line was read, where `text` is the text for what was read
+module _ {A : Type 0} (readable : A → Bool) {read whole : A} (is : read ≡ whole) {b after : List ℕ} {r : ℕ} (text : A → List ℕ) where
+  pub unreadable-told : readable read ≡ false → Written b 0 unreadableText after r → Written b 0 (cond (readable whole) (text whole) unreadableText) after r
+  unreadable-told e w = let f : readable whole ≡ false = rw is at e in rw f w
+
+  pub readable-told : readable read ≡ true → Written b 0 (text read) after r → Written b 0 (cond (readable whole) (text whole) unreadableText) after r
+  readable-told e w =
+      let f : readable whole ≡ true = rw is at e in
+      subst (λ (x : List ℕ). Written b 0 x after r) (ap text is ∙ ap (λ (y : Bool). cond y (text whole) unreadableText) (sym f)) w
+
+-- read as a position or a board
 abbrev pub lineText : (Line → List ℕ) → List ℕ → List ℕ
 lineText text line = cond (lineOf line .readable) (text (lineOf line)) unreadableText
 
 module _ (line : List ℕ) (read : Line) (is : read ≡ lineOf line) {b after : List ℕ} {r : ℕ} where
   pub unreadable-written : (text : Line → List ℕ) → read .readable ≡ false → Written b 0 unreadableText after r → Written b 0 (lineText text line) after r
-  unreadable-written text e w = let f : lineOf line .readable ≡ false = rw is at e in rw f w
+  unreadable-written text e w = unreadable-told (λ (l : Line). l .readable) is text e w
 
   readable-written : (text : Line → List ℕ) → read .readable ≡ true → Written b 0 (text read) after r → Written b 0 (lineText text line) after r
-  readable-written text e w =
-      let f : lineOf line .readable ≡ true = rw is at e in
-      subst (λ (x : List ℕ). Written b 0 x after r) (ap text is ∙ ap (λ (y : Bool). cond y (text (lineOf line)) unreadableText) (sym f)) w
+  readable-written text e w = readable-told (λ (l : Line). l .readable) is text e w
 
   module _ (e : read .readable ≡ true) where
     -- refresh_matrixs
@@ -99,10 +111,10 @@ module _ (line : List ℕ) (read : Line) (is : read ≡ lineOf line) {b after : 
         readable-written (λ l. frontierText (answerTo l .tested) (answerTo l)) e (subst (λ (a : FrontierAnswer). Written b 0 (frontierText (a .tested) a) after r) told w)
 
     -- a rule
-    pub deduction-line-written : (rule : Rule) (w : Seen) → w ≡ calledOn rule read → Written b 0 (deductionText w) after r → Written b 0 (deductionLine rule line) after r
+    pub deduction-line-written : (rule : Rule) (w : Seen) → w ≡ calledOn rule read → Written b 0 (deductionText rule w) after r → Written b 0 (deductionLine rule line) after r
     unfolding deductionLine
     deduction-line-written rule w told h =
-        readable-written (λ l. deductionText (calledOn rule l)) e (subst (λ (x : Seen). Written b 0 (deductionText x) after r) told h)
+        readable-written (λ l. deductionText rule (calledOn rule l)) e (subst (λ (x : Seen). Written b 0 (deductionText rule x) after r) told h)
 
     -- unsolvable_structure, by which answer it is
     pub pattern-line-written : {known : PatternAnswer} (answer : PatternAnswer) → answer ≡ patternOf read → answer ≡ known

@@ -5,14 +5,15 @@ use mathlib.Core.Bool.{Bool, true, false, cond}
 use mathlib.Core.List.{List, [], _∷_, _++_, map, append-assoc, append-nil}
 use Prim.Native.Nat.{ℕ, _+_, _-_, _≤_, _<_}
 use native.Mathlib.Omega.{arith}
-use lib.ListN.{length, take, set, replicate, length-append}
+use lib.ListN.{length, take, set, replicate, length-take, length-append}
 use lib.Seq.{take-all, take-append-le}
 use Rattle.lists.specs.Lists.{pad}
 use Rattle.lists.proofs.Arrays.{pad-push}
 use Rattle.text.specs.declared.Word.the-variants.{Number, End, Other}
 use Rattle.text.specs.Text.{wordAt}
 use Rattle.answers.specs.declared.lines.Line.{Line}
-use Rattle.answers.specs.Lines.{Numbers, numberBefore, numbersAt, cellByte, cellsOf, noLine, lineWith, withCells, lineFrom, lineOf}
+use Rattle.answers.specs.declared.lines.StartLine.{StartLine}
+use Rattle.answers.specs.Lines.{Numbers, numberBefore, numbersAt, cellByte, cellsOf, noLine, lineWith, withCells, lineFrom, lineOf, startFrom, startLineOf}
 use Rattle.answers.proofs.Words.{numbers-more, numbers-end, numbers-other}
 
 -- the line of these rows and columns with the cells that were read and the numbers behind them
@@ -84,17 +85,38 @@ module _ (line : List ℕ) (rows columns : ℕ) where
     pub cells-other : wordAt line at ≡ Other → noLine ≡ r
     cells-other e = rw (numbers-other line at e) at (v .left)
 
--- ---- a line that is read has its cells inside its array
+-- ---- a line that is read has its cells inside its array, which has 1025
 
 pad-longer : (x : List ℕ) → length x ≤ length (pad 1025 0 x)
 pad-longer x = omega (arith, length-append x (replicate (1025 - length x) 0))
 
+abbrev Inside : Line → Type 0
+Inside l = (l .len ≤ length (l .cells)) × (l .len ≤ 1025)
+
+none-inside : Inside noLine
+none-inside = (pad-longer [], omega arith)
+
+cells-inside : (rows columns : ℕ) (vs : List ℕ) → Inside (lineWith rows columns (cellsOf vs))
+cells-inside rows columns vs = (pad-longer (cellsOf vs), omega (arith, length-take 1025 (map cellByte vs)))
+
 pub line-fits : (line : List ℕ) → lineOf line .len ≤ length (lineOf line .cells)
 unfolding lineOf
-line-fits line = go (numbersAt line 0 .readable) (numbersAt line 0 .list)
+line-fits line = go (numbersAt line 0 .readable) (numbersAt line 0 .list) .0
   where
-    go : (b : Bool) (l : List ℕ) → lineFrom (record { readable = b; list = l }) .len ≤ length (lineFrom (record { readable = b; list = l }) .cells)
-    go true [] = pad-longer []
-    go true (r ∷ []) = pad-longer []
-    go true (r ∷ c ∷ l) = pad-longer (cellsOf l)
-    go false l = pad-longer []
+    go : (b : Bool) (l : List ℕ) → Inside (lineFrom (record { readable = b; list = l }))
+    go true [] = none-inside
+    go true (r ∷ []) = none-inside
+    go true (r ∷ c ∷ l) = cells-inside r c l
+    go false l = none-inside
+
+pub start-fits : (line : List ℕ) (read : StartLine) → read ≡ startLineOf line → Inside (read .board)
+unfolding startLineOf
+start-fits line read is = rw is (go (numbersAt line 0 .readable) (numbersAt line 0 .list))
+  where
+    go : (b : Bool) (l : List ℕ) → Inside (startFrom (record { readable = b; list = l }) .board)
+    go true [] = none-inside
+    go true (r ∷ []) = none-inside
+    go true (r ∷ c ∷ []) = none-inside
+    go true (r ∷ c ∷ row ∷ []) = none-inside
+    go true (r ∷ c ∷ row ∷ column ∷ l) = cells-inside r c l
+    go false l = none-inside

@@ -1,7 +1,7 @@
 -- The numbers of a line, word by word. Each number that is read moves the place forward inside the line, so any bound above the bytes left reads all words; so the numbers from a
 -- place on are those of the word there and of the places behind it. Rests on `word-advances` of the crate text. Assumes nothing.
 use mathlib.Core.Path.{_≡_, refl, ap, _∙_}
-use mathlib.Core.Bool.{Bool, true, false}
+use mathlib.Core.Bool.{true}
 use mathlib.Core.List.{List, []}
 use Prim.Native.Nat.{ℕ, zero, suc, _+_, _≤_}
 use native.Mathlib.Omega.{arith}
@@ -10,7 +10,7 @@ use Rattle.text.specs.declared.Word.{Word}
 use Rattle.text.specs.declared.Word.the-variants.{Number, End, Other}
 use Rattle.text.specs.Text.{wordAt}
 use Rattle.text.proofs.Reading.{word-advances}
-use Rattle.answers.specs.Lines.{Numbers, unreadable, numberBefore, afterWord, numbersFrom, numbersAt, withCells, noLine, lineFrom, lineOf}
+use Rattle.answers.specs.Lines.{unreadable, numberBefore, afterWord, numbersFrom, numbersAt}
 
 -- ---- any bound that is large enough reads the same
 
@@ -45,36 +45,3 @@ module _ (line : List ℕ) (at : ℕ) where
   pub numbers-other : wordAt line at ≡ Other → numbersAt line at ≡ unreadable
   unfolding numbersAt
   numbers-other e = rw e
-
--- ---- a line by its first two words
-
-two-before : (rows columns : ℕ) (ns : Numbers) → withCells rows columns ns ≡ lineFrom (numberBefore rows (numberBefore columns ns))
-two-before rows columns ns = go (ns .readable) (ns .list)
-  where
-    go : (b : Bool) (l : List ℕ)
-        → withCells rows columns (record { readable = b; list = l }) ≡ lineFrom (numberBefore rows (numberBefore columns (record { readable = b; list = l })))
-    go true l = refl
-    go false l = refl
-
-module _ (line : List ℕ) where
-  pub line-none : wordAt line 0 ≡ End → noLine ≡ lineOf line
-  unfolding lineOf
-  line-none e = rw (numbers-end line 0 e)
-
-  pub line-other : wordAt line 0 ≡ Other → noLine ≡ lineOf line
-  unfolding lineOf
-  line-other e = rw (numbers-other line 0 e)
-
-  module _ (rows second : ℕ) (first : wordAt line 0 ≡ Number rows second) where
-    pub line-one : wordAt line second ≡ End → noLine ≡ lineOf line
-    unfolding lineOf
-    line-one e = rw (numbers-more line 0 rows second first, numbers-end line second e)
-
-    pub line-one-other : wordAt line second ≡ Other → noLine ≡ lineOf line
-    unfolding lineOf
-    line-one-other e = rw (numbers-more line 0 rows second first, numbers-other line second e)
-
-    pub line-cells : (columns third : ℕ) → wordAt line second ≡ Number columns third → withCells rows columns (numbersAt line third) ≡ lineOf line
-    unfolding lineOf
-    line-cells columns third e =
-        rw (numbers-more line 0 rows second first, numbers-more line second columns third e) (two-before rows columns (numbersAt line third))

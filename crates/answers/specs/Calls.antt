@@ -2,14 +2,17 @@
 use mathlib.Core.List.{List}
 use Prim.Native.Nat.{ℕ}
 use Rattle.answers.specs.declared.Call.{Call}
-use Rattle.answers.specs.declared.Call.the-variants.{Frontier, Direct, Minus, Pattern}
+use Rattle.answers.specs.declared.Call.the-variants.{Frontier, Direct, Minus, Pattern, Enumerate, Verdict}
 use Rattle.answers.specs.declared.deductions.Rule.the-variants as rule
 use Rattle.answers.specs.Frontier.{frontierLine}
 use Rattle.answers.specs.Deductions.{deductionLine}
 use Rattle.answers.specs.Patterns.{patternLine}
+use Rattle.answers.specs.Verdicts.{verdictLine}
 
 unfoldable pub callLine : Call → List ℕ → List ℕ
 callLine Frontier line = frontierLine line
 callLine Direct line = deductionLine rule.Direct line
 callLine Minus line = deductionLine rule.Minus line
 callLine Pattern line = patternLine line
+callLine Enumerate line = deductionLine rule.Enumerate line
+callLine Verdict line = verdictLine line

@@ -1,5 +1,5 @@
--- The answers of the calls that deduce to a line: `safe 1,5 mine 5 pos 0 12 0 1 1 11 blocks 0`, `refused 6`, or `unreadable`. Each list that is lent has
--- room for 1024 cells. Assumes nothing.
+-- The answers of the calls that deduce to a line: `safe 1,5 mine 5 pos 0 12 0 1 1 11`, behind it the blocks left, ` blocks 0`, where the rule hands them out;
+-- `refused 6`, or `unreadable`. Each list that is lent has room for 1024 cells. Assumes nothing.
 use mathlib.Core.Bool.{cond}
 use mathlib.Core.List.{List, [], _∷_, _++_}
 use Prim.Native.Nat.{ℕ, _≤_}
@@ -7,13 +7,15 @@ use lib.ListN.{length, take, replicate}
 use Rattle.refusals.specs.declared.Tested.{Tested}
 use Rattle.refusals.specs.declared.Tested.the-variants.{Accepted, Refused}
 use Rattle.refusals.specs.Refusals.{refusalNumber}
+use Rattle.blocks.specs.declared.BlockSet.{BlockSet}
 use Rattle.blocks.specs.BlockSets.{blocksOf, Whole}
 use Rattle.rules.specs.Answers.{Seen, solveDirect, solveMinus}
+use Rattle.solutions.specs.Calls.{solveEnumerate}
 use Rattle.show.specs.Blocks.{numbersText, blocksText}
 use Rattle.show.specs.Cells.{cellsText}
 use Rattle.answers.specs.declared.lines.Line.{Line}
 use Rattle.answers.specs.declared.deductions.Rule.{Rule}
-use Rattle.answers.specs.declared.deductions.Rule.the-variants.{Direct, Minus}
+use Rattle.answers.specs.declared.deductions.Rule.the-variants.{Direct, Minus, Enumerate}
 use Rattle.answers.specs.Lines.{lineOf}
 use Rattle.answers.specs.Texts.{unreadableText, refusedText}
 
@@ -29,19 +31,27 @@ mineText l = (32 ∷ 109 ∷ 105 ∷ 110 ∷ 101 ∷ 32 ∷ []) ++ numbersText l
 abbrev pub positionText : List ℕ → List ℕ
 positionText p = (32 ∷ 112 ∷ 111 ∷ 115 ∷ []) ++ cellsText p
 
--- the four, one after another
+-- the three, one after another
 unfoldable pub foundText : Seen → List ℕ
-foundText w =
-    safeText (take (w .answer .safe) (w .safe))
-    ++ (mineText (take (w .answer .mines) (w .mines)) ++ (positionText (w .position) ++ (32 ∷ blocksText (blocksOf (w .answer .blocks)))))
+foundText w = safeText (take (w .answer .safe) (w .safe)) ++ (mineText (take (w .answer .mines) (w .mines)) ++ positionText (w .position))
 
-abbrev pub textAfter : Tested → Seen → List ℕ
-textAfter (Refused r) w = refusedText (refusalNumber r)
-textAfter Accepted w = foundText w
+-- ` blocks 0`
+abbrev pub blocksLeftText : BlockSet → List ℕ
+blocksLeftText set = 32 ∷ blocksText (blocksOf set)
 
--- what the caller sees, as text
-unfoldable pub deductionText : Seen → List ℕ
-deductionText w = textAfter (w .answer .tested) w
+-- the blocks left behind that; enumeration leaves none
+abbrev pub leftText : Rule → BlockSet → List ℕ
+leftText Direct set = blocksLeftText set
+leftText Minus set = blocksLeftText set
+leftText Enumerate set = []
+
+abbrev pub textAfter : Rule → Tested → Seen → List ℕ
+textAfter rule (Refused r) w = refusedText (refusalNumber r)
+textAfter rule Accepted w = foundText w ++ leftText rule (w .answer .blocks)
+
+-- what the caller of a rule sees, as text
+unfoldable pub deductionText : Rule → Seen → List ℕ
+deductionText rule w = textAfter rule (w .answer .tested) w
 
 -- the counts are within the lists, and the blocks can be read
 pub record Printable (w : Seen) : Type 0 where
@@ -53,6 +63,7 @@ pub record Printable (w : Seen) : Type 0 where
 unfoldable pub called : Rule → ℕ → ℕ → List ℕ → List ℕ → List ℕ → Seen
 called Direct rows columns p s m = solveDirect rows columns p s m
 called Minus rows columns p s m = solveMinus rows columns p s m
+called Enumerate rows columns p s m = solveEnumerate rows columns p s m
 
 -- its answer to a line's position
 abbrev pub calledOn : Rule → Line → Seen
@@ -60,4 +71,4 @@ calledOn rule l = called rule (l .rows) (l .columns) (take (l .len) (l .cells)) 
 
 -- a rule's answer to a line
 unfoldable pub deductionLine : Rule → List ℕ → List ℕ
-deductionLine rule line = cond (lineOf line .readable) (deductionText (calledOn rule (lineOf line))) unreadableText
+deductionLine rule line = cond (lineOf line .readable) (deductionText rule (calledOn rule (lineOf line))) unreadableText

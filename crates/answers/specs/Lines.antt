@@ -1,5 +1,5 @@
--- A line of decimal numbers as a position or a board: rows, columns, then the cells row by row. A line with anything else in it, or with fewer than two
--- numbers, is unreadable. Assumes nothing.
+-- A line of decimal numbers as a position or a board: rows, columns, then the cells row by row; or as a board with its start: rows, columns, start row, start
+-- column, then the cells. A line with anything else in it, or with fewer than these two or four numbers, is unreadable. Assumes nothing.
 use mathlib.Core.Bool.{Bool, true, false, cond}
 use mathlib.Core.List.{List, [], _∷_, map}
 use Prim.Native.Nat.{ℕ, zero, suc}
@@ -10,6 +10,9 @@ use Rattle.text.specs.declared.Word.{Word}
 use Rattle.text.specs.declared.Word.the-variants.{Number, End, Other}
 use Rattle.text.specs.Text.{wordAt}
 use Rattle.answers.specs.declared.lines.Line.{Line}
+use Rattle.answers.specs.declared.lines.StartLine.{StartLine}
+use Rattle.answers.specs.declared.lines.Pair.{Pair}
+use Rattle.answers.specs.declared.lines.Pair.the-variants as pair
 
 -- the numbers of a line, or that it is unreadable
 pub record Numbers : Type 0 where
@@ -37,6 +40,20 @@ numbersFrom (suc k) line at = afterWord (numbersFrom k line) (wordAt line at)
 -- the numbers from a place on; a line has at most as many numbers as bytes
 unfoldable pub numbersAt : List ℕ → ℕ → Numbers
 numbersAt line at = numbersFrom (suc (length line)) line at
+
+-- two numbers from a place on, and the place after them
+abbrev pub pairWith : ℕ → Word → Pair
+pairWith first (Number n next) = pair.Numbers first n next
+pairWith first End = pair.Missing
+pairWith first Other = pair.Missing
+
+abbrev pub pairAfter : List ℕ → Word → Pair
+pairAfter line (Number n next) = pairWith n (wordAt line next)
+pairAfter line End = pair.Missing
+pairAfter line Other = pair.Missing
+
+unfoldable pub pairAt : List ℕ → ℕ → Pair
+pairAt line at = pairAfter line (wordAt line at)
 
 -- a number as a cell's byte; one that is none becomes 254, which no cell is
 abbrev pub cellByte : ℕ → ℕ
@@ -68,3 +85,26 @@ lineFrom ns = cond (ns .readable) (fromNumbers (ns .list)) noLine
 -- a line read
 unfoldable pub lineOf : List ℕ → Line
 lineOf line = lineFrom (numbersAt line 0)
+
+-- ---- a board with its start
+
+abbrev pub noStart : StartLine
+noStart = record { board = noLine; «start_row» = 0; «start_column» = 0 }
+
+-- a board that was read, with its start
+abbrev pub withStart : Line → ℕ → ℕ → StartLine
+withStart board row column = cond (board .readable) (record { board = board; «start_row» = row; «start_column» = column }) noStart
+
+abbrev pub startFromNumbers : List ℕ → StartLine
+startFromNumbers [] = noStart
+startFromNumbers (r ∷ []) = noStart
+startFromNumbers (r ∷ c ∷ []) = noStart
+startFromNumbers (r ∷ c ∷ row ∷ []) = noStart
+startFromNumbers (r ∷ c ∷ row ∷ column ∷ vs) = record { board = lineWith r c (cellsOf vs); «start_row» = row; «start_column» = column }
+
+abbrev pub startFrom : Numbers → StartLine
+startFrom ns = cond (ns .readable) (startFromNumbers (ns .list)) noStart
+
+-- a line with a start read
+unfoldable pub startLineOf : List ℕ → StartLine
+startLineOf line = startFrom (numbersAt line 0)

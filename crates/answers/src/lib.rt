@@ -1,6 +1,7 @@
 // What each call answers to a line of numbers, as a line of text in a lent buffer: the text of the oracle, so that a comparison is a `diff`.
 pub mod deductions;
 pub mod lines;
+pub mod verdicts;
 
 use deductions::Rule;
 use deductions::call_rule;
@@ -14,6 +15,7 @@ use refusals::Tested;
 use show::put_blocks;
 use text::put_bytes;
 use text::put_number;
+use verdicts::verdict_line;
 ghost use Rattle.text.specs.Text.{Written};
 ghost use Rattle.answers.specs.Frontier.{frontierLine};
 ghost use Rattle.answers.specs.Deductions.{deductionLine};
@@ -26,6 +28,8 @@ pub enum Call {
     Direct,
     Minus,
     Pattern,
+    Enumerate,
+    Verdict,
 }
 
 // The answer of refresh_matrixs to a line.
@@ -73,7 +77,7 @@ fn deduction_line(rule: Rule, line: &[u8], out: &mut [u8]) -> usize
         &mut safe,
         &mut mines,
     );
-    put_deduction(out, answer, &cells[..len], &safe, &mines)
+    put_deduction(out, rule, answer, &cells[..len], &safe, &mines)
 }
 
 // The answer of unsolvable_structure to a line.
@@ -103,5 +107,7 @@ pub fn call_line(call: Call, line: &[u8], out: &mut [u8]) -> usize
         Call::Direct => deduction_line(Rule::Direct, line, out),
         Call::Minus => deduction_line(Rule::Minus, line, out),
         Call::Pattern => pattern_line(line, out),
+        Call::Enumerate => deduction_line(Rule::Enumerate, line, out),
+        Call::Verdict => verdict_line(line, out),
     }
 }

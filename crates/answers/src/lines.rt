@@ -1,9 +1,9 @@
-// A line of decimal numbers read as a position or a board: rows, columns, and the cells row by row. The reading stops at the first word that is no
-// number, and the line is unreadable then.
+// A line of decimal numbers read as a position or a board: rows, columns, and the cells row by row; or as a board with its start, whose row and column stand
+// before the cells. The reading stops at the first word that is no number, and the line is unreadable then.
 use text::Word;
 use text::number_at;
 ghost use mathlib.Core.Path.{_≡_};
-ghost use Rattle.answers.specs.Lines.{cellByte, noLine, withCells, numbersAt, lineOf};
+ghost use Rattle.answers.specs.Lines.{pairAt, cellByte, noLine, withCells, numbersAt, lineOf, noStart, withStart, startLineOf};
 
 // Rows, columns and the cells, 0 in the slots past len.
 pub struct Line {
@@ -12,6 +12,34 @@ pub struct Line {
     pub columns: usize,
     pub cells: [u8; 1025],
     pub len: usize,
+}
+
+// A board and its start.
+pub struct StartLine {
+    pub board: Line,
+    pub start_row: usize,
+    pub start_column: usize,
+}
+
+// Two numbers of a line, and the place after them.
+pub enum Pair {
+    Numbers(usize, usize, usize),
+    Missing,
+}
+
+// The two numbers from a place on.
+fn pair_at(line: &[u8], at: usize) -> Pair
+    ensures { λ r. ⌜ r ≡ pairAt (now (line .entry)) at ⌝ }
+{
+    match number_at(line, at) {
+        Word::Number(first, second) => match number_at(line, second) {
+            Word::Number(number, next) => Pair::Numbers(first, number, next),
+            Word::End => Pair::Missing,
+            Word::Other => Pair::Missing,
+        },
+        Word::End => Pair::Missing,
+        Word::Other => Pair::Missing,
+    }
 }
 
 // A line that is unreadable.
@@ -70,13 +98,48 @@ fn read_cells(line: &[u8], from: usize, rows: usize, columns: usize) -> Line
 pub fn read_line(line: &[u8]) -> Line
     ensures { λ r. ⌜ r ≡ lineOf (now (line .entry)) ⌝ }
 {
-    match number_at(line, 0) {
-        Word::Number(rows, second) => match number_at(line, second) {
-            Word::Number(columns, third) => read_cells(line, third, rows, columns),
-            Word::End => no_line(),
-            Word::Other => no_line(),
+    match pair_at(line, 0) {
+        Pair::Numbers(rows, columns, next) => read_cells(line, next, rows, columns),
+        Pair::Missing => no_line(),
+    }
+}
+
+// A line with a start that is unreadable.
+fn no_start() -> StartLine
+    ensures { λ r. ⌜ r ≡ noStart ⌝ }
+{
+    StartLine {
+        board: no_line(),
+        start_row: 0,
+        start_column: 0,
+    }
+}
+
+// A board with its start, where it is readable.
+fn with_start(board: Line, start_row: usize, start_column: usize) -> StartLine
+    ensures { λ r. ⌜ r ≡ withStart board «start_row» «start_column» ⌝ }
+{
+    if board.readable {
+        return StartLine {
+            board,
+            start_row,
+            start_column,
+        };
+    }
+    no_start()
+}
+
+// A line with a start read.
+pub fn read_start_line(line: &[u8]) -> StartLine
+    ensures { λ r. ⌜ r ≡ startLineOf (now (line .entry)) ⌝ }
+{
+    match pair_at(line, 0) {
+        Pair::Numbers(rows, columns, third) => match pair_at(line, third) {
+            Pair::Numbers(row, column, next) => {
+                with_start(read_cells(line, next, rows, columns), row, column)
+            }
+            Pair::Missing => no_start(),
         },
-        Word::End => no_line(),
-        Word::Other => no_line(),
+        Pair::Missing => no_start(),
     }
 }

@@ -1,5 +1,6 @@
-// probe CALL: reads lines `R C v v v ..` from standard input and prints, a line each, what the call (frontier, direct, minus or pattern) answers, `refused` with
-// the number of a refusal, or `unreadable`. A line of more than 16,384 bytes is unreadable.
+// probe CALL: reads lines from standard input and prints, a line each, what the call answers, `refused` with the number of a refusal, or `unreadable`. The calls
+// frontier, direct, minus, enumerate and pattern take lines `R C v v v ..`, and verdict, with the start's row and column, `R C r c v v v ..`. A line of more than
+// 16,384 bytes is unreadable.
 use answers::Call;
 use answers::call_line;
 use check::same;
@@ -91,7 +92,18 @@ fn run_named(word: &[u8], chunk: &mut [u8], line: &mut [u8], out: &mut [u8]) {
         run(Call::Pattern, chunk, line, out);
         return;
     }
-    io::write_all(2, b"usage: probe frontier|direct|minus|pattern < LINES\n");
+    if same(word, b"enumerate") {
+        run(Call::Enumerate, chunk, line, out);
+        return;
+    }
+    if same(word, b"verdict") {
+        run(Call::Verdict, chunk, line, out);
+        return;
+    }
+    io::write_all(
+        2,
+        b"usage: probe frontier|direct|minus|enumerate|pattern|verdict < LINES\n",
+    );
 }
 
 fn main() {

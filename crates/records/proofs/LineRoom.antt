@@ -31,11 +31,11 @@ decimal-few : (n : ℕ) → length (decimal n) ≤ 20
 unfolding decimal
 decimal-few n = digits-few 19 n
 
-word-few : (solvable : Bool) → length (verdictWord solvable) ≤ 5
+word-few : (solvable : Bool) → length (verdictWord solvable) ≤ 4
 word-few true = omega arith
 word-few false = omega arith
 
-verdict-few : (v : Verdict) → length (verdictText v) ≤ 67
+verdict-few : (v : Verdict) → length (verdictText v) ≤ 66
 unfolding verdictText
 verdict-few (Refused r) = simp length-append (omega (arith, decimal-few (refusalNumber r)))
 verdict-few (Judged solvable opened grade rounds) =

@@ -1,5 +1,5 @@
--- The writes that make up a line, one behind the other: ` refused` and its number, or the word of the verdict and its three numbers; before them the record's number, and behind
--- them the end of the line. Rests on the law of two writes joined, of the crate text. Assumes nothing.
+-- The writes that make up a line, one behind the other: `refused` and its number, or the word of the verdict and its three numbers; before them the record's number and a space,
+-- and behind them the end of the line. Rests on the law of two writes joined, of the crate text. Assumes nothing.
 use Prim.Native.Nat.{ℕ, _≤_}
 use mathlib.Core.Path.{_≡_}
 use mathlib.Core.Bool.{Bool}
@@ -16,7 +16,7 @@ use Rattle.records.specs.Answers.{verdictWord, verdictText, lineText}
 
 module _ {b : List ℕ} {at : ℕ} {first : List ℕ} {r : ℕ} {after : List ℕ} {s : ℕ} (room : at ≤ length b) where
   pub refused-written : {v : Verdict} {refusal : Refusal} {n : ℕ} → v ≡ Refused refusal → n ≡ refusalNumber refusal
-      → Written b at (32 ∷ 114 ∷ 101 ∷ 102 ∷ 117 ∷ 115 ∷ 101 ∷ 100 ∷ 32 ∷ []) first r → Written first r (decimal n) after s
+      → Written b at (114 ∷ 101 ∷ 102 ∷ 117 ∷ 115 ∷ 101 ∷ 100 ∷ 32 ∷ []) first r → Written first r (decimal n) after s
       → Written b at (verdictText v) after s
   unfolding verdictText
   refused-written e h word number = rw e (written-both room word (rw h at number))
@@ -35,8 +35,9 @@ module _ {b : List ℕ} {at : ℕ} {first : List ℕ} {r : ℕ} {after : List �
       (written-both (written-within gap) strength
       (written-both (written-within strength) space passes)))))
 
-pub line-written : {b first : List ℕ} {r : ℕ} {second : List ℕ} {s : ℕ} {after : List ℕ} {t : ℕ} (number : ℕ) (v : Verdict)
-    → Written b 0 (decimal number) first r → Written first r (verdictText v) second s → Written second s (10 ∷ []) after t
-    → Written b 0 (lineText number v) after t
+pub line-written : {b first : List ℕ} {r : ℕ} {second : List ℕ} {s : ℕ} {third : List ℕ} {t : ℕ} {after : List ℕ} {u : ℕ} (number : ℕ) (v : Verdict)
+    → Written b 0 (decimal number) first r → Written first r (32 ∷ []) second s → Written second s (verdictText v) third t → Written third t (10 ∷ []) after u
+    → Written b 0 (lineText number v) after u
 unfolding lineText
-line-written number v count verdict end = written-both (omega arith) count (written-both (written-within count) verdict end)
+line-written number v count gap verdict end =
+    written-both (omega arith) count (written-both (written-within count) gap (written-both (written-within gap) verdict end))

@@ -13,18 +13,18 @@ use Rattle.records.specs.declared.Record.{Record}
 use Rattle.records.specs.declared.Record.the-variants.{End, Damaged, Whole}
 use Rattle.records.specs.Records.{recordOf, cellsIn, pictureSize}
 
--- ` yes ` and ` no `
+-- `yes ` and `no `
 abbrev pub verdictWord : Bool → List ℕ
-verdictWord v = cond v (32 ∷ 121 ∷ 101 ∷ 115 ∷ 32 ∷ []) (32 ∷ 110 ∷ 111 ∷ 32 ∷ [])
+verdictWord v = cond v (121 ∷ 101 ∷ 115 ∷ 32 ∷ []) (110 ∷ 111 ∷ 32 ∷ [])
 
--- ` yes 2 0 0` or ` refused 1`
+-- `yes 2 0 0` or `refused 1`
 unfoldable pub verdictText : Verdict → List ℕ
-verdictText (Refused r) = (32 ∷ 114 ∷ 101 ∷ 102 ∷ 117 ∷ 115 ∷ 101 ∷ 100 ∷ 32 ∷ []) ++ decimal (refusalNumber r)
+verdictText (Refused r) = (114 ∷ 101 ∷ 102 ∷ 117 ∷ 115 ∷ 101 ∷ 100 ∷ 32 ∷ []) ++ decimal (refusalNumber r)
 verdictText (Judged v opened grade rounds) = verdictWord v ++ (decimal opened ++ (32 ∷ (decimal grade ++ (32 ∷ decimal rounds))))
 
 -- `1 yes 2 0 0` and the end of the line
 unfoldable pub lineText : ℕ → Verdict → List ℕ
-lineText number v = decimal number ++ (verdictText v ++ (10 ∷ []))
+lineText number v = decimal number ++ (32 ∷ (verdictText v ++ (10 ∷ [])))
 
 -- what a part of the input comes to: a line, or none, and whether the run goes on
 pub record Answered : Type 0 where

@@ -79,25 +79,25 @@ pub fn read_record(input: &[u8]) -> Record
     )
 }
 
-// ` yes ` or ` no `, from a place on.
+// `yes ` or `no `, from a place on.
 fn put_word(out: &mut [u8], at: usize, yes: bool) -> usize
     requires { ⌜ at ≤ length (now out) ⌝ }
     ensures { λ r. ⌜ Written (now (out .entry)) at (verdictWord yes) (now (out .exit)) r ⌝ }
 {
     if yes {
-        return put_bytes(out, at, b" yes ");
+        return put_bytes(out, at, b"yes ");
     }
-    put_bytes(out, at, b" no ")
+    put_bytes(out, at, b"no ")
 }
 
-// ` yes 2 0 0` or ` refused 1`, from a place on.
-fn put_verdict(out: &mut [u8], at: usize, verdict: Verdict) -> usize
+// `yes 2 0 0` or `refused 1`, from a place on.
+pub fn put_verdict(out: &mut [u8], at: usize, verdict: Verdict) -> usize
     requires { ⌜ at ≤ length (now out) ⌝ }
     ensures { λ r. ⌜ Written (now (out .entry)) at (verdictText verdict) (now (out .exit)) r ⌝ }
 {
     match verdict {
         Verdict::Refused(refusal) => {
-            let word = put_bytes(out, at, b" refused ");
+            let word = put_bytes(out, at, b"refused ");
             put_number(out, word, refusal_number(refusal) as usize)
         }
         Verdict::Judged(yes, opened, grade, rounds) => {
@@ -116,7 +116,8 @@ pub fn put_line(out: &mut [u8], number: usize, verdict: Verdict) -> usize
     ensures { λ r. ⌜ Written (now (out .entry)) 0 (lineText number verdict) (now (out .exit)) r ⌝ }
 {
     let after = put_number(out, 0, number);
-    let end = put_verdict(out, after, verdict);
+    let gap = put_byte(out, after, 32);
+    let end = put_verdict(out, gap, verdict);
     put_byte(out, end, 10)
 }
 

@@ -177,14 +177,7 @@ fn run(call: Call, fd: i32, chunk: &mut [u8], asked: &mut [u8], answer: &mut [u8
 }
 
 // Runs the file of a call.
-fn run_file(
-    call: Call,
-    name: &[u8],
-    chunk: &mut [u8],
-    asked: &mut [u8],
-    answer: &mut [u8],
-    out: &mut [u8],
-) {
+fn run_file(call: Call, name: &[u8]) {
     let fd = os::open_read(name);
     if fd < 0 {
         os::fail(name);
@@ -192,45 +185,19 @@ fn run_file(
     }
     io::write_all(1, name);
     io::write_all(1, b": ");
-    run(call, fd, chunk, asked, answer, out);
-    libc::close(fd);
-}
-
-fn main() {
     let mut chunk = io::large_buffer();
     let mut asked = line_buffer();
     let mut answer = io::large_buffer();
     let mut out = io::large_buffer();
-    run_file(
-        Call::Frontier,
-        b"frontier",
-        &mut chunk,
-        &mut asked,
-        &mut answer,
-        &mut out,
-    );
-    run_file(
-        Call::Direct,
-        b"direct",
-        &mut chunk,
-        &mut asked,
-        &mut answer,
-        &mut out,
-    );
-    run_file(
-        Call::Minus,
-        b"minus",
-        &mut chunk,
-        &mut asked,
-        &mut answer,
-        &mut out,
-    );
-    run_file(
-        Call::Pattern,
-        b"pattern",
-        &mut chunk,
-        &mut asked,
-        &mut answer,
-        &mut out,
-    );
+    run(call, fd, &mut chunk, &mut asked, &mut answer, &mut out);
+    libc::close(fd);
+}
+
+fn main() {
+    run_file(Call::Frontier, b"frontier");
+    run_file(Call::Direct, b"direct");
+    run_file(Call::Minus, b"minus");
+    run_file(Call::Enumerate, b"enumerate");
+    run_file(Call::Pattern, b"pattern");
+    run_file(Call::Verdict, b"verdict");
 }

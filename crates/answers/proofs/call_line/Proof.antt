@@ -28,6 +28,18 @@ enum-told-4 c = search needs
 pattern-line-requires : tie.Need-pattern-line-requires
 pattern-line-requires c κs = search needs
 
+enum-told-5 : tie.Need-enum-told-5
+enum-told-5 c = search needs
+
+deduction-line-requires-3 : tie.Need-deduction-line-requires-3
+deduction-line-requires-3 c κs = search needs
+
+enum-told-6 : tie.Need-enum-told-6
+enum-told-6 c = search needs
+
+verdict-line-requires : tie.Need-verdict-line-requires
+verdict-line-requires c κs = search needs
+
 same-length : tie.Need-same-length
 same-length c = search needs
 
@@ -56,6 +68,20 @@ returns-4 : tie.Need-returns-4
 unfolding callLine
 returns-4 c = rw (c .before .before .before .before .enum-told4 .given .1) (c .before .before .pattern-line .ensures)
 
+same-length-5 : tie.Need-same-length-5
+same-length-5 c = search needs
+
+returns-5 : tie.Need-returns-5
+unfolding callLine
+returns-5 c = rw (c .before .before .before .before .enum-told5 .given .1) (c .before .before .deduction-line3 .ensures)
+
+same-length-6 : tie.Need-same-length-6
+same-length-6 c = search needs
+
+returns-6 : tie.Need-returns-6
+unfolding callLine
+returns-6 c = rw (c .before .before .before .before .enum-told6 .given .1) (c .before .before .verdict-line .ensures)
+
 pub call-line-spec : {M : Type 1} → statement M
 call-line-spec =
     tie.close
@@ -68,6 +94,10 @@ call-line-spec =
     deduction-line-requires-2
     enum-told-4
     pattern-line-requires
+    enum-told-5
+    deduction-line-requires-3
+    enum-told-6
+    verdict-line-requires
     same-length
     returns
     same-length-2
@@ -75,4 +105,8 @@ call-line-spec =
     same-length-3
     returns-3
     same-length-4
-    returns-4)
+    returns-4
+    same-length-5
+    returns-5
+    same-length-6
+    returns-6)

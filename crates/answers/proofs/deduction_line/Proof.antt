@@ -52,7 +52,7 @@ returns : tie.Need-returns
 unfolding deductionLine
 returns c =
     let line = c .before .before .before .before .before .before .before in
-    unreadable-written _ (line .read-line .result) (line .read-line .ensures) (λ l. deductionText (calledOn (line .before .before .before .args .rule) l))
+    unreadable-written _ (line .read-line .result) (line .read-line .ensures) (λ l. deductionText (line .before .before .before .args .rule) (calledOn (line .before .before .before .args .rule) l))
     (not-true (line .read-line .result .readable) (c .before .before .before .before .before .if1 .taken)) (c .before .before .put-bytes .ensures)
 
 array-borrow-prefix-cells : tie.Need-array-borrow-prefix-cells

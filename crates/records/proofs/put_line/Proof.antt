@@ -1,4 +1,4 @@
--- `put_line` meets its contract: number, verdict and the end of the line are one text. Assumes nothing.
+-- `put_line` meets its contract: number, space, verdict and the end of the line are one text. Assumes nothing.
 use Rattle.records.proofs.LineWritten.{line-written}
 use borrow.Author.Needs.{needs}
 use Rattle.records.proofs.put_line.Statement.{statement}
@@ -7,11 +7,14 @@ use Rattle.records.proofs.put_line.Tie as tie
 put-number-requires : tie.Need-put-number-requires
 put-number-requires c κs = search needs
 
+put-byte-requires : tie.Need-put-byte-requires
+put-byte-requires c κs = search needs
+
 put-verdict-requires : tie.Need-put-verdict-requires
 put-verdict-requires c κs = search needs
 
-put-byte-requires : tie.Need-put-byte-requires
-put-byte-requires c κs = search needs
+put-byte-requires-2 : tie.Need-put-byte-requires-2
+put-byte-requires-2 c κs = search needs
 
 same-length : tie.Need-same-length
 same-length c = search needs
@@ -20,11 +23,12 @@ returns : tie.Need-returns
 returns c =
     let end = c .before .before in
     let verdict = end .before .before .before .before in
-    let count = verdict .before .before .before .before in
+    let gap = verdict .before .before .before .before in
+    let count = gap .before .before .before .before in
     let a = count .before .before .before .args in
-    line-written (a .number) (a .verdict) (count .put-number .ensures) (verdict .put-verdict .ensures) (end .put-byte .ensures)
+    line-written (a .number) (a .verdict) (count .put-number .ensures) (gap .put-byte .ensures) (verdict .put-verdict .ensures) (end .put-byte2 .ensures)
 
 pub put-line-spec : {M : Type 1} → statement M
 put-line-spec =
     tie.close
-    (tie.spec put-number-requires put-verdict-requires put-byte-requires same-length returns)
+    (tie.spec put-number-requires put-byte-requires put-verdict-requires put-byte-requires-2 same-length returns)

@@ -16,6 +16,12 @@ enum-told-2 c = search needs
 solve-minus-requires : tie.Need-solve-minus-requires
 solve-minus-requires c κs = search needs
 
+enum-told-3 : tie.Need-enum-told-3
+enum-told-3 c = search needs
+
+solve-enumerate-requires : tie.Need-solve-enumerate-requires
+solve-enumerate-requires c κs = search needs
+
 same-length : tie.Need-same-length
 same-length c = search needs
 
@@ -42,6 +48,19 @@ returns-2 : tie.Need-returns-2
 unfolding called
 returns-2 c = rw (c .before .before .before .before .before .before .before .before .before .before .enum-told2 .given .1) (c .before .before .before .before .before .before .solve-minus .ensures)
 
+same-length-7 : tie.Need-same-length-7
+same-length-7 c = search needs
+
+same-length-8 : tie.Need-same-length-8
+same-length-8 c = search needs
+
+same-length-9 : tie.Need-same-length-9
+same-length-9 c = search needs
+
+returns-3 : tie.Need-returns-3
+unfolding called
+returns-3 c = rw (c .before .before .before .before .before .before .before .before .before .before .enum-told3 .given .1) (c .before .before .before .before .before .before .solve-enumerate .ensures)
+
 pub call-rule-spec : {M : Type 1} → statement M
 call-rule-spec =
     tie.close
@@ -50,6 +69,8 @@ call-rule-spec =
     solve-direct-requires
     enum-told-2
     solve-minus-requires
+    enum-told-3
+    solve-enumerate-requires
     same-length
     same-length-2
     same-length-3
@@ -57,4 +78,8 @@ call-rule-spec =
     same-length-4
     same-length-5
     same-length-6
-    returns-2)
+    returns-2
+    same-length-7
+    same-length-8
+    same-length-9
+    returns-3)

@@ -1,6 +1,6 @@
--- `put_found` meets its contract: its eight writes are one text, and what is printed of the lists stands inside them. Rests on the law of those writes,
+-- `put_found` meets its contract: its six writes are one text, and what is printed of the lists stands inside them. Rests on the law of those writes,
 -- `AnswerWritten`. Assumes nothing.
-use Rattle.text.proofs.Writing.{written-length, written-within}
+use Rattle.text.proofs.Writing.{written-length}
 use Rattle.rules.specs.Answers.{seen}
 use Rattle.answers.proofs.AnswerWritten.{found-written}
 use borrow.Author.Needs.{needs}
@@ -34,20 +34,9 @@ put-bytes-requires-3 c κs = search needs
 put-cells-requires : tie.Need-put-cells-requires
 put-cells-requires c κs = search needs
 
-slice-aggregate-put-bytes-4 : tie.Need-slice-aggregate-put-bytes-4
-slice-aggregate-put-bytes-4 c = search needs
-
-put-bytes-requires-4 : tie.Need-put-bytes-requires-4
-put-bytes-requires-4 c κs = search needs
-
-put-blocks-requires : tie.Need-put-blocks-requires
-put-blocks-requires c κs = (written-within (c .before .before .before .put-bytes4 .ensures), c .before .before .before .before .before .before .before .before .before .before .before .before .before .before .before .before .before .before .before .before .before .before .before .before .before .before .before .before .before .before .before .before .before .before .before .before .before .pre .blocks-whole)
-
 returns : tie.Need-returns
 returns c =
-    let blocks = c .before .before in
-    let gap = blocks .before .before .before .before in
-    let cells = gap .before .before .before .before .before in
+    let cells = c .before .before in
     let word = cells .before .before .before .before in
     let mine-list = word .before .before .before .before .before in
     let mine = mine-list .before .before .before .before in
@@ -55,7 +44,7 @@ returns c =
     let safe = safe-list .before .before .before .before in
     let s = safe .before .before .before .before .before .before .before in
     found-written (seen (s .args .answer) (s .args .position .now) (s .args .safe .now) (s .args .mines .now)) (s .pre) (safe .put-bytes .ensures) (safe-list .put-numbers .ensures)
-    (mine .put-bytes2 .ensures) (mine-list .put-numbers2 .ensures) (word .put-bytes3 .ensures) (cells .put-cells .ensures) (gap .put-bytes4 .ensures) (blocks .put-blocks .ensures)
+    (mine .put-bytes2 .ensures) (mine-list .put-numbers2 .ensures) (word .put-bytes3 .ensures) (cells .put-cells .ensures)
 
 same-length : tie.Need-same-length
 same-length c = written-length (returns c)
@@ -73,8 +62,5 @@ put-found-spec =
     slice-aggregate-put-bytes-3
     put-bytes-requires-3
     put-cells-requires
-    slice-aggregate-put-bytes-4
-    put-bytes-requires-4
-    put-blocks-requires
     same-length
     returns)
