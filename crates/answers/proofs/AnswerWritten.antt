@@ -86,7 +86,7 @@ module _ (line : List ℕ) (read : Line) (is : read ≡ lineOf line) {b after : 
   pub unreadable-written : (text : Line → List ℕ) → read .readable ≡ false → Written b 0 unreadableText after r → Written b 0 (lineText text line) after r
   unreadable-written text e w = let f : lineOf line .readable ≡ false = rw is at e in rw f w
 
-  readable-written : (text : Line → List ℕ) → read .readable ≡ true → Written b 0 (text read) after r → Written b 0 (lineText text line) after r
+  pub readable-written : (text : Line → List ℕ) → read .readable ≡ true → Written b 0 (text read) after r → Written b 0 (lineText text line) after r
   readable-written text e w =
       let f : lineOf line .readable ≡ true = rw is at e in
       subst (λ (x : List ℕ). Written b 0 x after r) (ap text is ∙ ap (λ (y : Bool). cond y (text (lineOf line)) unreadableText) (sym f)) w

@@ -3,3 +3,4 @@ pub mod Words
 pub mod CellsSoFar
 pub mod ReadableAnswers
 pub mod AnswerWritten
+pub mod TablesWritten

@@ -4,4 +4,5 @@ pub mod Texts
 pub mod Frontier
 pub mod Deductions
 pub mod Patterns
+pub mod Tables
 pub mod Calls

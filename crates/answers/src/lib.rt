@@ -1,6 +1,7 @@
 // What each call answers to a line of numbers, as a line of text in a lent buffer: the text of the oracle, so that a comparison is a `diff`.
 pub mod deductions;
 pub mod lines;
+pub mod table_text;
 
 use deductions::Rule;
 use deductions::call_rule;
