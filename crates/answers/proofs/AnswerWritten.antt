@@ -100,7 +100,7 @@ module _ (line : List ℕ) (read : Line) (is : read ≡ lineOf line) {b after : 
   pub unreadable-written : (text : Line → List ℕ) → read .readable ≡ false → Written b 0 unreadableText after r → Written b 0 (lineText text line) after r
   unreadable-written text e w = unreadable-told (λ (l : Line). l .readable) is text e w
 
-  readable-written : (text : Line → List ℕ) → read .readable ≡ true → Written b 0 (text read) after r → Written b 0 (lineText text line) after r
+  pub readable-written : (text : Line → List ℕ) → read .readable ≡ true → Written b 0 (text read) after r → Written b 0 (lineText text line) after r
   readable-written text e w = readable-told (λ (l : Line). l .readable) is text e w
 
   module _ (e : read .readable ≡ true) where

@@ -4,4 +4,5 @@ pub mod FirstNumbers
 pub mod CellsSoFar
 pub mod ReadableAnswers
 pub mod AnswerWritten
+pub mod TablesWritten
 pub mod VerdictWritten

@@ -4,5 +4,6 @@ pub mod Texts
 pub mod Frontier
 pub mod Deductions
 pub mod Patterns
+pub mod Tables
 pub mod Verdicts
 pub mod Calls

@@ -1,6 +1,7 @@
 // What each call answers to a line of numbers, as a line of text in a lent buffer: the text of the oracle, so that a comparison is a `diff`.
 pub mod deductions;
 pub mod lines;
+pub mod table_text;
 pub mod verdicts;
 
 use deductions::Rule;
@@ -13,6 +14,7 @@ use patterns::PatternAnswer;
 use patterns::unsolvable_structure;
 use refusals::Tested;
 use show::put_blocks;
+use table_text::table_line;
 use text::put_bytes;
 use text::put_number;
 use verdicts::verdict_line;
@@ -30,6 +32,7 @@ pub enum Call {
     Pattern,
     Enumerate,
     Verdict,
+    Table,
 }
 
 // The answer of refresh_matrixs to a line.
@@ -109,5 +112,6 @@ pub fn call_line(call: Call, line: &[u8], out: &mut [u8]) -> usize
         Call::Pattern => pattern_line(line, out),
         Call::Enumerate => deduction_line(Rule::Enumerate, line, out),
         Call::Verdict => verdict_line(line, out),
+        Call::Table => table_line(line, out),
     }
 }

@@ -1,6 +1,6 @@
-// probe CALL: reads lines from standard input and prints, a line each, what the call answers, `refused` with the number of a refusal, or `unreadable`. The calls
-// frontier, direct, minus, enumerate and pattern take lines `R C v v v ..`, and verdict, with the start's row and column, `R C r c v v v ..`. A line of more than
-// 16,384 bytes is unreadable.
+// probe CALL: reads lines from standard input and prints, a line each, what the call answers, `refused` with the number of a refusal, or `unreadable`. The
+// calls frontier, direct, minus, enumerate, table and pattern take lines `R C v v v ..`, and verdict, with the start's row and column, `R C r c v v v ..`. A
+// line of more than 16,384 bytes is unreadable. table prints the table of each block, for which 16,384 bytes are lent; past that it is `refused 9`.
 use answers::Call;
 use answers::call_line;
 use check::same;
@@ -13,6 +13,13 @@ fn line_buffer() -> [u8; 16384]
     ensures { λ r. ⌜ 16384 ≡ length r ⌝ }
 {
     [0; 16384]
+}
+
+// Room for an answer: the tables of a position are its longest.
+fn answer_buffer() -> [u8; 262144]
+    ensures { λ r. ⌜ 262144 ≡ length r ⌝ }
+{
+    [0; 262144]
 }
 
 // Prints the answer to one line; one that did not fit its buffer is unreadable.
@@ -100,9 +107,13 @@ fn run_named(word: &[u8], chunk: &mut [u8], line: &mut [u8], out: &mut [u8]) {
         run(Call::Verdict, chunk, line, out);
         return;
     }
+    if same(word, b"table") {
+        run(Call::Table, chunk, line, out);
+        return;
+    }
     io::write_all(
         2,
-        b"usage: probe frontier|direct|minus|enumerate|pattern|verdict < LINES\n",
+        b"usage: probe frontier|direct|minus|enumerate|table|pattern|verdict < LINES\n",
     );
 }
 
@@ -111,6 +122,6 @@ fn main() {
     let n = os::arg(1, &mut word);
     let mut chunk = io::large_buffer();
     let mut line = line_buffer();
-    let mut out = io::large_buffer();
+    let mut out = answer_buffer();
     run_named(&word[..n], &mut chunk, &mut line, &mut out);
 }

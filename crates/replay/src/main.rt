@@ -198,6 +198,7 @@ fn main() {
     run_file(Call::Direct, b"direct");
     run_file(Call::Minus, b"minus");
     run_file(Call::Enumerate, b"enumerate");
+    run_file(Call::Table, b"table");
     run_file(Call::Pattern, b"pattern");
     run_file(Call::Verdict, b"verdict");
 }

@@ -40,6 +40,12 @@ enum-told-6 c = search needs
 verdict-line-requires : tie.Need-verdict-line-requires
 verdict-line-requires c κs = search needs
 
+enum-told-7 : tie.Need-enum-told-7
+enum-told-7 c = search needs
+
+table-line-requires : tie.Need-table-line-requires
+table-line-requires c κs = search needs
+
 same-length : tie.Need-same-length
 same-length c = search needs
 
@@ -82,6 +88,13 @@ returns-6 : tie.Need-returns-6
 unfolding callLine
 returns-6 c = rw (c .before .before .before .before .enum-told6 .given .1) (c .before .before .verdict-line .ensures)
 
+same-length-7 : tie.Need-same-length-7
+same-length-7 c = search needs
+
+returns-7 : tie.Need-returns-7
+unfolding callLine
+returns-7 c = rw (c .before .before .before .before .enum-told7 .given .1) (c .before .before .table-line .ensures)
+
 pub call-line-spec : {M : Type 1} → statement M
 call-line-spec =
     tie.close
@@ -98,6 +111,8 @@ call-line-spec =
     deduction-line-requires-3
     enum-told-6
     verdict-line-requires
+    enum-told-7
+    table-line-requires
     same-length
     returns
     same-length-2
@@ -109,4 +124,6 @@ call-line-spec =
     same-length-5
     returns-5
     same-length-6
-    returns-6)
+    returns-6
+    same-length-7
+    returns-7)
