@@ -55,6 +55,10 @@ zeroOk row column b = not (isOpenStart row column) || any (λ v. eqb v 0) b
 unfoldable pub startCell : ℕ → ℕ → ℕ → List ℕ → ℕ
 startCell columns row column b = cond (isOpenStart row column) (firstPlace (λ v. eqb v 0) b) (row * columns + column)
 
+-- 5, then 7, by their answers
+abbrev pub numberThenZero : Bool → Bool → Tested
+numberThenZero numbers zero = tested (test numbers Number ∷ test zero NoZero ∷ [])
+
 -- a board call, lent a picture of n bytes
 abbrev pub boardTests : ℕ → ℕ → ℕ → ℕ → List ℕ → ℕ → List Test
 boardTests rows columns row column b n =

@@ -7,7 +7,7 @@ ghost use lib.Dec.{leb, eqb};
 ghost use Rattle.lists.specs.Lists.{firstPlace};
 ghost use Rattle.grid.specs.Window.{neighbours, Sized, Board};
 ghost use Rattle.refusals.specs.Refusals.{refusalNumber};
-ghost use Rattle.refusals.specs.Tests.{sizeOk, lengthOk, roomOk, boardCellsOk, positionCellsOk, startOk, numbersOk, zeroOk, isOpenStart, startCell, boardTested, positionTested, deductionTested, patternTested};
+ghost use Rattle.refusals.specs.Tests.{sizeOk, lengthOk, roomOk, boardCellsOk, positionCellsOk, startOk, numbersOk, zeroOk, isOpenStart, startCell, numberThenZero, boardTested, positionTested, deductionTested, patternTested};
 
 // What a call may refuse, in the order of 01's numbers.
 pub enum Refusal {
@@ -193,6 +193,19 @@ pub fn start_cell(rows: usize, columns: usize, row: usize, column: usize, cells:
     row * columns + column
 }
 
+// Tests 5 and 7 by their answers: where both fail, 5 is told.
+fn number_then_zero(numbers: bool, zero: bool) -> Tested
+    ensures { λ r. ⌜ r ≡ numberThenZero numbers zero ⌝ }
+{
+    if !numbers {
+        return Tested::Refused(Refusal::Number);
+    }
+    if !zero {
+        return Tested::Refused(Refusal::NoZero);
+    }
+    Tested::Accepted
+}
+
 // The tests of a board call, which lends a picture of `picture` bytes.
 pub fn test_board(
     rows: usize,
@@ -219,13 +232,8 @@ pub fn test_board(
     if !start_ok(rows, columns, row, column) {
         return Tested::Refused(Refusal::Start);
     }
-    if !numbers_ok(rows, columns, cells) {
-        return Tested::Refused(Refusal::Number);
-    }
-    if !zero_ok(row, column, cells) {
-        return Tested::Refused(Refusal::NoZero);
-    }
-    Tested::Accepted
+    let numbers = numbers_ok(rows, columns, cells);
+    number_then_zero(numbers, zero_ok(row, column, cells))
 }
 
 // The tests of a call on a position.

@@ -5,7 +5,7 @@ use mathlib.Core.Bool.{Bool, true, false, not, cond, _&&_}
 use mathlib.Core.List.{List, [], map, reverse, List·Memᴰ}
 use Prim.Native.Nat.{ℕ}
 use Rattle.lists.specs.Lists.{keep, any, has}
-use Rattle.lists.proofs.Tests.{and-right}
+use Rattle.lists.proofs.Tests.{and-right, clash}
 use Rattle.lists.proofs.Unions.{has-joined-map}
 use Rattle.lists.proofs.PassingElements.{any-mem, any-reverse, Each, each-kept, each-mapped, each-joined, joined-each}
 use Rattle.blocks.specs.Blocks.{BlockEquation, Block}
@@ -56,6 +56,11 @@ module _ (safe mines : List ℕ) (left : List Block) where
   pub answer-contradiction : (t : Bool) → cond t contradicted (found safe mines left) .contradiction ≡ t
   answer-contradiction true = refl
   answer-contradiction false = refl
+
+  -- which comes alone
+  pub answer-alone : (t : Bool) → cond t contradicted (found safe mines left) .contradiction ≡ true → cond t contradicted (found safe mines left) ≡ contradicted
+  answer-alone true h = refl
+  answer-alone false h = clash false h refl
 
   -- where there is one its safe cells are none
   pub answer-safe : (t : Bool) → cond t contradicted (found safe mines left) .safe ≡ cond t [] safe

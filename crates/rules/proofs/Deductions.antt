@@ -86,7 +86,7 @@ module _ (rule : List Block → Found) (rows columns : ℕ) (p s m : List ℕ) w
         let small : length p ≤ 1024 = omega (arith, few-cells (accepted .position .board .sized)) in
         let safe : length (f .safe) ≤ length p = listed-few near p (f .safe) (sound .safe-among) in
         let mines : length (f .mines) ≤ length p = listed-few near p (f .mines) (sound .mines-among) in
-        struct-held f r answered whole (length p) (length s) (length m)
+        struct-held f r answered (sound .alone) whole (length p) (length s) (length m)
         (omega (arith, accepted .safe-room)) (omega (arith, accepted .mines-room)) (omega arith) (omega arith)
         (listed-below near p (f .safe) (sound .safe-among)) (listed-below near p (f .mines) (sound .mines-among))
 

@@ -22,10 +22,10 @@ use Rattle.blocks.specs.BlockSets.{allCells, allEquations}
 use Rattle.blocks.proofs.Saying.{says-all-mines, says-all-free}
 use Rattle.chunks.specs.Chunks.{chunkMatrixes}
 use Rattle.frontier.proofs.BlockLaws.{Proper}
-use Rattle.rules.specs.Found.{lessMines, lessSafe}
+use Rattle.rules.specs.Found.{contradicted, lessMines, lessSafe}
 use Rattle.rules.specs.Direct.{full, clear, cellsOf, sureMines, afterMines, sureSafe, afterSafe, directLeft, negative, fromLast, direct}
 use Rattle.rules.proofs.TakenOut.{taken-out-proper, SolvedBy, SolvesAll, isNegative, RestCovers, RestsCover, covers-less-mines, covers-less-safe, solves-less-mines, solves-less-safe, solved-not-negative}
-use Rattle.rules.proofs.Answers.{each-of-made, solves-block, from-last-each, answer-contradiction, answer-safe, answer-mines, answer-left, unless-has}
+use Rattle.rules.proofs.Answers.{each-of-made, solves-block, from-last-each, answer-contradiction, answer-alone, answer-safe, answer-mines, answer-left, unless-has}
 
 -- ---- the cells of the equations that pass a test
 
@@ -205,6 +205,11 @@ module _ (bs : List Block) where
   pub direct-contradiction : direct bs .contradiction ≡ negative (map directLeft bs)
   unfolding direct
   direct-contradiction = answer-contradiction _ _ _ (negative (map directLeft bs))
+
+  -- which comes alone
+  pub direct-alone : direct bs .contradiction ≡ true → direct bs ≡ contradicted
+  unfolding direct
+  direct-alone h = answer-alone _ _ _ (negative (map directLeft bs)) h
 
   -- then the mines are none, and else those of the blocks
   pub direct-mines : direct bs .mines ≡ cond (direct bs .contradiction) [] (fromLast (λ b. sureMines (b .equations)) bs)

@@ -2,24 +2,28 @@
 -- its block set is whole, its blocks make the same struct again, and a caller sees of blocks only that. So what the caller sees is what the rule found.
 -- Assumes nothing.
 use mathlib.Core.Path.{_≡_, sym, ap, _∙_}
+use mathlib.Core.Logic.{inl, inr}
 use mathlib.Core.Bool.{true, false}
-use mathlib.Core.List.{List}
+use mathlib.Core.List.{List, []}
 use Prim.Native.Nat.{ℕ, _≤_}
 use native.Mathlib.Omega.{arith}
 use lib.Dec.{ltb}
 use lib.ListN.{length, take}
 use lib.Seq.{sets}
 use Rattle.lists.specs.Lists.{all}
+use Rattle.lists.proofs.Tests.{Decided, decided}
 use Rattle.lists.proofs.Arrays.{length-pad, pad-take}
 use Rattle.refusals.specs.declared.Refusal.the-variants.{Contradiction}
-use Rattle.refusals.specs.declared.Tested.the-variants.{Accepted}
+use Rattle.refusals.specs.declared.Tested.{Tested}
+use Rattle.refusals.specs.declared.Tested.the-variants.{Accepted, Refused}
 use Rattle.blocks.specs.BlockSets.{blockSet, Small, Whole}
 use Rattle.blocks.specs.declared.BlockSet.{BlockSet}
 use Rattle.blocks.proofs.Reading.{blocks-of-set}
-use Rattle.rules.specs.Found.{Found}
-use Rattle.rules.specs.Answers.{ruleAnswer, foundIn, Held, Seen, seen, written, refused, afterFound}
+use Rattle.rules.specs.Found.{Found, contradicted}
+use Rattle.rules.specs.Answers.{ruleAnswer, foundIn, Held, Seen, seen, written, toldBy, refusedAnswer, refused, afterFound}
 use Rattle.rules.specs.declared.answer.RuleAnswer.{RuleAnswer}
 use Rattle.rules.specs.declared.answer.DeductionAnswer.{DeductionAnswer}
+use Rattle.rules.proofs.WrittenCells.{written-none}
 
 -- ---- what a caller sees of a rule's answer
 
@@ -83,13 +87,15 @@ module _ (f : Found) (r : RuleAnswer) (is : r ≡ ruleAnswer f) where
   }
 
   -- and can be handed to a caller whose slices have room for its lists
-  pub struct-held : Whole (r .left) → (n s m : ℕ)
+  pub struct-held : (f .contradiction ≡ true → f ≡ contradicted) → Whole (r .left) → (n s m : ℕ)
       → length (f .safe) ≤ s → length (f .mines) ≤ m
       → length (f .safe) ≤ 1024 → length (f .mines) ≤ 1024
       → all (λ c. ltb c n) (f .safe) ≡ true → all (λ c. ltb c n) (f .mines) ≡ true
       → Held r n s m
-  struct-held whole n s m room-safe room-mines few-safe few-mines safe-below mines-below = record {
+  unfolding ruleAnswer
+  struct-held alone whole n s m room-safe room-mines few-safe few-mines safe-below mines-below = record {
     is = is ∙ sym (same-struct (foundIn r) f (struct-found whole));
+    alone = λ e. is ∙ ap ruleAnswer (alone (sym (ap (λ (x : RuleAnswer). x .contradiction) is) ∙ e));
     room-safe = rw struct-safe room-safe;
     room-mines = rw struct-mines room-mines;
     few-safe = rw struct-safe few-safe;
@@ -148,13 +154,21 @@ module _ {r : RuleAnswer} {n s m : ℕ} (h : Held r n s m) where
   unfolding ruleAnswer
   held-left = ap (λ (x : RuleAnswer). x .left) (h .is)
 
-  -- a contradiction is handed on by its name
-  pub gives-contradiction : (p s′ m′ : List ℕ) → r .contradiction ≡ true → refused Contradiction p s′ m′ ≡ afterFound (foundIn r) p s′ m′
-  unfolding foundIn
-  gives-contradiction p s′ m′ e = sym (after-contradiction (foundIn r) p s′ m′ e)
+  -- a contradiction is handed on by its name: its lists are empty, so that nothing is stored or written
+  gives-contradiction : (p s′ m′ : List ℕ) → r .contradiction ≡ true
+      → seen (record { tested = Refused Contradiction; safe = r .«safe_count»; mines = r .«mine_count»; blocks = r .left })
+      (written 11 (foundIn r .mines) (written 12 (foundIn r .safe) p)) (sets s′ 0 (foundIn r .safe)) (sets m′ 0 (foundIn r .mines))
+      ≡ afterFound (foundIn r) p s′ m′
+  unfolding foundIn ruleAnswer refusedAnswer
+  gives-contradiction p s′ m′ e =
+      let shown : RuleAnswer → Seen = λ x. seen (record { tested = Refused Contradiction; safe = x .«safe_count»; mines = x .«mine_count»; blocks = x .left })
+      (written 11 (foundIn x .mines) (written 12 (foundIn x .safe) p)) (sets s′ 0 (foundIn x .safe)) (sets m′ 0 (foundIn x .mines)) in
+      ap shown (h .alone e)
+      ∙ ap (λ (q : List ℕ). seen (refusedAnswer Contradiction) q s′ m′) (written-none 11 (written 12 [] p) ∙ written-none 12 p)
+      ∙ sym (after-contradiction (foundIn r) p s′ m′ e)
 
   -- and lists by storing and marking them
-  pub gives-lists : (p s′ m′ : List ℕ) → r .contradiction ≡ false
+  gives-lists : (p s′ m′ : List ℕ) → r .contradiction ≡ false
       → seen (record { tested = Accepted; safe = r .«safe_count»; mines = r .«mine_count»; blocks = r .left })
       (written 11 (foundIn r .mines) (written 12 (foundIn r .safe) p)) (sets s′ 0 (foundIn r .safe)) (sets m′ 0 (foundIn r .mines))
       ≡ afterFound (foundIn r) p s′ m′
@@ -165,3 +179,18 @@ module _ {r : RuleAnswer} {n s m : ℕ} (h : Held r n s m) where
       ∙ ap (λ (k : ℕ). shown (record { tested = Accepted; safe = length (foundIn r .safe); mines = k; blocks = r .left })) held-mine-count
       ∙ ap (λ (b : BlockSet). shown (record { tested = Accepted; safe = length (foundIn r .safe); mines = length (foundIn r .mines); blocks = b })) held-left
       ∙ sym (after-lists (foundIn r) p s′ m′ e)
+
+  -- so, with the contradiction or its absence told, the caller sees what is to be seen
+  pub gives-found : (p s′ m′ : List ℕ) (t : Tested) → t ≡ toldBy (r .contradiction)
+      → seen (record { tested = t; safe = r .«safe_count»; mines = r .«mine_count»; blocks = r .left })
+      (written 11 (foundIn r .mines) (written 12 (foundIn r .safe) p)) (sets s′ 0 (foundIn r .safe)) (sets m′ 0 (foundIn r .mines))
+      ≡ afterFound (foundIn r) p s′ m′
+  gives-found p s′ m′ t told = go (decided (r .contradiction))
+    where
+      shown : Tested → Seen
+      shown x = seen (record { tested = x; safe = r .«safe_count»; mines = r .«mine_count»; blocks = r .left })
+          (written 11 (foundIn r .mines) (written 12 (foundIn r .safe) p)) (sets s′ 0 (foundIn r .safe)) (sets m′ 0 (foundIn r .mines))
+
+      go : Decided (r .contradiction) → shown t ≡ afterFound (foundIn r) p s′ m′
+      go (inl e) = ap shown (told ∙ ap toldBy e) ∙ gives-contradiction p s′ m′ e
+      go (inr e) = ap shown (told ∙ ap toldBy e) ∙ gives-lists p s′ m′ e

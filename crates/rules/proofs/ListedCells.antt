@@ -115,36 +115,40 @@ module _ (there cells whole marks out : List ℕ) (n k : ℕ) (held : Adding the
   pub adding-end : k ≤ 0 → take n out ≡ whole
   adding-end h = let e : k ≡ 0 = omega arith in ap (λ (j : ℕ). addNew (take n out) (backUnmarked there cells j)) (sym e) ∙ held .left
 
-  module _ (some : 0 < k) (few : k ≤ length cells) (c : ℕ) (at : c ≡ getD cells (k - 1) 0) where
-    -- the last of them, if it is not marked there
-    next : (t : Bool) → marked there c ≡ t → backUnmarked there cells k ≡ cond (not t) (c ∷ backUnmarked there cells (k - 1)) (backUnmarked there cells (k - 1))
+  -- the last of them is c, at place j
+  module _ (j : ℕ) (last : k ≡ j + 1) (few : k ≤ length cells) (c : ℕ) (at : c ≡ getD cells j 0) where
+    -- it comes first, if it is not marked there
+    next : (t : Bool) → marked there c ≡ t → backUnmarked there cells k ≡ cond (not t) (c ∷ backUnmarked there cells j) (backUnmarked there cells j)
     next t e =
-        ap (keep (λ x. not (marked there x))) (take-back cells k 0 some few ∙ ap (λ (x : ℕ). x ∷ reverse (take (k - 1) cells)) (sym at))
-        ∙ ap (λ (v : Bool). cond (not v) (c ∷ backUnmarked there cells (k - 1)) (backUnmarked there cells (k - 1))) e
+        ap (keep (λ x. not (marked there x))) (back ∙ ap (λ (x : ℕ). x ∷ reverse (take j cells)) (sym at))
+        ∙ ap (λ (v : Bool). cond (not v) (c ∷ backUnmarked there cells j) (backUnmarked there cells j)) e
+      where
+        back : reverse (take k cells) ≡ getD cells j 0 ∷ reverse (take j cells)
+        back = let e : k - 1 ≡ j = omega arith in rw e at (take-back cells k 0 (omega arith) few)
 
     -- it is marked there: it is passed over
-    pub adding-known : marked there c ≡ true → Adding there cells whole marks out n (k - 1)
+    pub adding-known : marked there c ≡ true → Adding there cells whole marks out n j
     adding-known e = record { listed = held .listed; left = sym (ap (addNew (take n out)) (next true e)) ∙ held .left }
 
     -- it is listed already
-    pub adding-old : marked there c ≡ false → marked marks c ≡ true → Adding there cells whole marks out n (k - 1)
+    pub adding-old : marked there c ≡ false → marked marks c ≡ true → Adding there cells whole marks out n j
     adding-old e m =
         record {
           listed = held .listed;
-          left = sym (add-new-there (take n out) c (backUnmarked there cells (k - 1)) (sym (marks-has (held .listed .shown) c) ∙ m))
+          left = sym (add-new-there (take n out) c (backUnmarked there cells j) (sym (marks-has (held .listed .shown) c) ∙ m))
               ∙ sym (ap (addNew (take n out)) (next false e))
               ∙ held .left;
         }
 
     -- it is new
     pub adding-new : c < 1024 → marked there c ≡ false → marked marks c ≡ false
-        → Adding there cells whole (set marks c 1) (set out n (getD cells (k - 1) 0)) (n + 1) (k - 1)
+        → Adding there cells whole (set marks c 1) (set out n (getD cells j 0)) (n + 1) j
     adding-new below e m =
         rw (← at)
         record {
           listed = listed-push marks out n (held .listed) c below m;
-          left = ap (λ (l : List ℕ). addNew l (backUnmarked there cells (k - 1))) (listed-added marks out n (held .listed) c below m)
-              ∙ sym (add-new-push (take n out) c (backUnmarked there cells (k - 1)) (sym (marks-has (held .listed .shown) c) ∙ m))
+          left = ap (λ (l : List ℕ). addNew l (backUnmarked there cells j)) (listed-added marks out n (held .listed) c below m)
+              ∙ sym (add-new-push (take n out) c (backUnmarked there cells j) (sym (marks-has (held .listed .shown) c) ∙ m))
               ∙ sym (ap (addNew (take n out)) (next false e))
               ∙ held .left;
         }

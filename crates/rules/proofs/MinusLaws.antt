@@ -22,11 +22,11 @@ use Rattle.blocks.specs.Blocks.{BlockEquation, Block, says}
 use Rattle.blocks.specs.BlockSets.{allCells, allEquations}
 use Rattle.chunks.specs.Chunks.{chunkMatrixes}
 use Rattle.frontier.proofs.BlockLaws.{Proper}
-use Rattle.rules.specs.Found.{lessMines, lessSafe}
+use Rattle.rules.specs.Found.{contradicted, lessMines, lessSafe}
 use Rattle.rules.specs.Direct.{fromLast, direct}
 use Rattle.rules.specs.Minus.{ownCells, exceeds, somePair, minusMines, minusSafe, minusLeft, minusBlocks, subtraction}
 use Rattle.rules.proofs.TakenOut.{taken-out-proper, SolvedBy, SolvesAll, solves-less-mines, solves-less-safe, RestCovers, RestsCover, covers-less-mines, covers-less-safe}
-use Rattle.rules.proofs.Answers.{each-of-made, each-of-kept, solves-block, from-last-each, answer-contradiction, answer-safe, answer-mines, answer-left, unless-has}
+use Rattle.rules.proofs.Answers.{each-of-made, each-of-kept, solves-block, from-last-each, answer-contradiction, answer-alone, answer-safe, answer-mines, answer-left, unless-has}
 use Rattle.rules.proofs.DirectLaws.{direct-among, direct-no-contradiction, direct-mines-true, direct-safe-false}
 
 -- ---- a pair of equations
@@ -172,6 +172,11 @@ module _ (bs : List Block) where
   pub subtraction-contradiction : subtraction bs .contradiction ≡ direct (minusBlocks bs) .contradiction
   unfolding subtraction
   subtraction-contradiction = answer-contradiction _ _ _ (direct (minusBlocks bs) .contradiction)
+
+  -- which comes alone
+  pub subtraction-alone : subtraction bs .contradiction ≡ true → subtraction bs ≡ contradicted
+  unfolding subtraction
+  subtraction-alone h = answer-alone _ _ _ (direct (minusBlocks bs) .contradiction) h
 
   -- then the mines are none, and else those of the blocks with those of the direct pass
   pub subtraction-mines : subtraction bs .mines ≡ cond (subtraction bs .contradiction) [] (fromLast minusMines bs ++ direct (minusBlocks bs) .mines)

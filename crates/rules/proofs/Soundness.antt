@@ -25,20 +25,22 @@ use Rattle.frontier.specs.Frontier.{closedBeside, equationOf, cellsMet, frontie
 use Rattle.frontier.proofs.BlockLaws.{equation-rearranged, frontier-proper, Origin, equation-origin}
 use Rattle.frontier.proofs.Coverage.{frontier-closed, frontier-once, frontier-size}
 use Rattle.frontier.proofs.Fitting.{fits-solves}
-use Rattle.rules.specs.Found.{Found, ruleOf}
+use Rattle.rules.specs.Found.{Found, contradicted, ruleOf}
 use Rattle.rules.specs.Direct.{direct}
 use Rattle.rules.specs.Minus.{subtraction}
 use Rattle.rules.proofs.TakenOut.{RestsCover}
-use Rattle.rules.proofs.DirectLaws.{direct-among, direct-no-contradiction, direct-mines-true, direct-safe-false}
-use Rattle.rules.proofs.MinusLaws.{subtraction-mines-among, subtraction-safe-among, subtraction-no-contradiction, subtraction-mines-true, subtraction-safe-false}
+use Rattle.rules.proofs.DirectLaws.{direct-alone, direct-among, direct-no-contradiction, direct-mines-true, direct-safe-false}
+use Rattle.rules.proofs.MinusLaws.{subtraction-alone, subtraction-mines-among, subtraction-safe-among, subtraction-no-contradiction, subtraction-mines-true, subtraction-safe-false}
 
--- what the lists of an answer say is so in every layout that fits; their cells are of the frontier; and there is no contradiction where a layout fits
+-- what the lists of an answer say is so in every layout that fits; their cells are of the frontier; there is no contradiction where a layout fits, and
+-- where there is one it comes alone
 pub record SoundAt (near : ℕ → List ℕ) (p : List ℕ) (answer : Found) : Type 0 where
   pub safe-free : (c : ℕ) → has (answer .safe) c ≡ true → Forced near p c false
   pub mines-mined : (c : ℕ) → has (answer .mines) c ≡ true → Forced near p c true
   pub safe-among : Among (answer .safe) (allCells (frontier near p))
   pub mines-among : Among (answer .mines) (allCells (frontier near p))
   pub no-contradiction : (m : List Bool) → Fits near p m → answer .contradiction ≡ false
+  pub alone : answer .contradiction ≡ true → answer ≡ contradicted
 
 -- ---- what follows of such an answer
 
@@ -116,6 +118,7 @@ module _ (near : ℕ → List ℕ) (once : (c : ℕ) → nodup (near c) ≡ true
     safe-among = λ f. omega (arith, both f, among-right (direct (frontier near p) .mines) (direct (frontier near p) .safe) f);
     mines-among = λ f. omega (arith, both f, among-left (direct (frontier near p) .mines) (direct (frontier near p) .safe) f);
     no-contradiction = λ m fit. direct-no-contradiction (frontier near p) (mineAt m) (fits-solves near p once few m fit);
+    alone = direct-alone (frontier near p);
   }
     where
       both : Among (direct (frontier near p) .mines ++ direct (frontier near p) .safe) (allCells (frontier near p))
@@ -129,6 +132,7 @@ module _ (near : ℕ → List ℕ) (once : (c : ℕ) → nodup (near c) ≡ true
     safe-among = subtraction-safe-among (frontier near p) (frontier-proper near p);
     mines-among = subtraction-mines-among (frontier near p) (frontier-proper near p);
     no-contradiction = λ m fit. subtraction-no-contradiction (frontier near p) (mineAt m) proper (fits-solves near p once few m fit);
+    alone = subtraction-alone (frontier near p);
   }
     where
       proper : (b : Block) → List·Memᴰ b (frontier near p) → (e : BlockEquation) → List·Memᴰ e (b .equations) → nodup (e .cells) ≡ true

@@ -1,6 +1,6 @@
 -- The answers of the two rules: of a rule on blocks, and of a call on a position. Assumes nothing.
 use mathlib.Core.Path.{_≡_}
-use mathlib.Core.Bool.{true, cond}
+use mathlib.Core.Bool.{Bool, true, cond}
 use mathlib.Core.List.{List, [], map}
 use Prim.Native.Nat.{ℕ, _≤_}
 use lib.Dec.{ltb}
@@ -16,7 +16,7 @@ use Rattle.refusals.specs.Tests.{deductionTested}
 use Rattle.blocks.specs.Blocks.{Block}
 use Rattle.blocks.specs.BlockSets.{blockSet, blocksOf}
 use Rattle.frontier.specs.Frontier.{frontier}
-use Rattle.rules.specs.Found.{Found}
+use Rattle.rules.specs.Found.{Found, contradicted}
 use Rattle.rules.specs.Direct.{direct}
 use Rattle.rules.specs.Minus.{subtraction}
 use Rattle.rules.specs.declared.answer.RuleAnswer.{RuleAnswer}
@@ -44,9 +44,10 @@ foundIn r = record {
   left = blocksOf (r .left);
 }
 
--- a struct that holds lists of cells below n, which fit into slices of s and m entries, and blocks, and nothing else
+-- a struct that holds lists of cells below n, which fit into slices of s and m entries, and blocks, and nothing else; a contradiction comes alone
 pub record Held (r : RuleAnswer) (n s m : ℕ) : Type 0 where
   pub is : r ≡ ruleAnswer (foundIn r)
+  pub alone : r .contradiction ≡ true → r ≡ ruleAnswer contradicted
   pub room-safe : length (foundIn r .safe) ≤ s
   pub room-mines : length (foundIn r .mines) ≤ m
   pub few-safe : length (foundIn r .safe) ≤ 1024
@@ -69,6 +70,10 @@ seen r p s m = record { answer = r; position = p; safe = s; mines = m }
 -- the position with each listed cell set to a value
 unfoldable pub written : ℕ → List ℕ → List ℕ → List ℕ
 written value l p = map (λ c. cond (has l c) value (getD p c 0)) (range 0 (length p))
+
+-- a contradiction is refusal 6
+abbrev pub toldBy : Bool → Tested
+toldBy contradiction = cond contradiction (Refused Contradiction) Accepted
 
 -- a refusal: its name alone
 unfoldable pub refusedAnswer : Refusal → DeductionAnswer

@@ -1,5 +1,5 @@
 // The answers of a rule on blocks and of a call on a position, and how the one becomes the other: the lists at the front of the lent slices, 12 at each
-// safe cell of the position and 11 at each mine, written last. A contradiction writes nothing.
+// safe cell of the position and 11 at each mine, written last. A contradiction has empty lists, so that nothing is written.
 use super::listing::put_list;
 use blocks::BlockSet;
 use blocks::empty_set;
@@ -13,7 +13,7 @@ ghost use lib.Dec.{ltb};
 ghost use lib.ListN.{length, take};
 ghost use Rattle.lists.specs.Lists.{all};
 ghost use Rattle.rules.specs.Found.{contradicted};
-ghost use Rattle.rules.specs.Answers.{ruleAnswer, refusedAnswer, written, afterFound, foundIn, Held, seen};
+ghost use Rattle.rules.specs.Answers.{ruleAnswer, refusedAnswer, toldBy, written, afterFound, foundIn, Held, seen};
 
 // What a rule finds in a block set: a contradiction, or two lists of cells with their counts, and the blocks left. Entries past a count are 0.
 pub struct RuleAnswer {
@@ -70,6 +70,17 @@ fn mark_cells(list: &[u16; 1024], count: usize, value: u8, position: &mut [u8])
     }
 }
 
+// What the caller is told of a contradiction: refusal 6.
+fn told(contradiction: bool) -> Tested
+    ensures { λ r. ⌜ r ≡ toldBy contradiction ⌝ }
+{
+    if contradiction {
+        Tested::Refused(Refusal::Contradiction)
+    } else {
+        Tested::Accepted
+    }
+}
+
 // Hands a rule's answer to the caller.
 pub fn give_answer(
     found: RuleAnswer,
@@ -80,9 +91,6 @@ pub fn give_answer(
     requires { ⌜ Held found (length (now position)) (length (now safe)) (length (now mines)) ⌝ }
     ensures { λ r. ⌜ seen r (now (position .exit)) (now (safe .exit)) (now (mines .exit)) ≡ afterFound (foundIn found) (now (position .entry)) (now (safe .entry)) (now (mines .entry)) ⌝ }
 {
-    if found.contradiction {
-        return refused(Refusal::Contradiction);
-    }
     let safe_list = found.safe;
     let mine_list = found.mines;
     let left = found.left;
@@ -91,7 +99,7 @@ pub fn give_answer(
     mark_cells(&safe_list, found.safe_count, 12, position);
     mark_cells(&mine_list, found.mine_count, 11, position);
     DeductionAnswer {
-        tested: Tested::Accepted,
+        tested: told(found.contradiction),
         safe: found.safe_count,
         mines: found.mine_count,
         blocks: left,

@@ -16,7 +16,7 @@ use grid::window::wide;
 ghost use mathlib.Core.Path.{_≡_};
 ghost use mathlib.Core.Bool.{not};
 ghost use mathlib.Core.List.{[], reverse};
-ghost use Prim.Native.Nat.{ℕ, _≤_};
+ghost use Prim.Native.Nat.{ℕ, _-_, _≤_, _<_};
 ghost use lib.ListN.{length, take};
 ghost use Rattle.lists.specs.Lists.{keep, addNew};
 ghost use Rattle.blocks.specs.BlockSets.{blocksOf, Whole};
@@ -24,6 +24,14 @@ ghost use Rattle.blocks.specs.Places.{marked, Marks, OnBoard, Slots, equationsF
 ghost use Rattle.rules.specs.Direct.{sureMines, sureSafe, direct};
 ghost use Rattle.rules.specs.Marked.{Ready, Listed};
 ghost use Rattle.rules.specs.Answers.{ruleAnswer};
+
+// The i-th of `len` places counted from the last, which is the 0-th.
+fn from_last(len: usize, i: usize) -> usize
+    requires { ⌜ i < len ⌝ }
+    ensures { λ r. ⌜ r ≡ len - i - 1 ⌝ }
+{
+    len - i - 1
+}
 
 // The cells of a list from the last to the first, but those that are marked here or there, go behind the `at` cells of `out` and are marked here.
 fn add_unmarked(
@@ -39,10 +47,10 @@ fn add_unmarked(
     ensures { λ r. ⌜ take r (now (out .exit)) ≡ addNew (take at (now (out .entry))) (keep (λ c. not (marked (now (there .entry)) c)) (reverse (take (list .len) (list .cells)))) ⌝ }
 {
     let cells = list.cells;
+    let len = list.len;
     let mut n = at;
-    let mut k = list.len;
-    while 0 < k {
-        k -= 1;
+    for i in 0..len {
+        let k = from_last(len, i);
         let c = wide(cells[k]);
         if there[c] != 1 {
             if marks[c] != 1 {

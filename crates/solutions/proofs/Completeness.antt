@@ -31,6 +31,7 @@ use Rattle.frontier.proofs.Fitting.{Solves, fits-solves-block, solutions-force,
 use Rattle.rules.specs.Found.{Found, ruleOf}
 use Rattle.rules.specs.Direct.{direct}
 use Rattle.rules.specs.Minus.{subtraction}
+use Rattle.rules.proofs.Answers.{answer-alone}
 use Rattle.rules.proofs.Soundness.{SoundAt, rule-sound, direct-rule-sound, subtraction-rule-sound}
 use Rattle.solutions.specs.Solutions.{solutions}
 use Rattle.solutions.specs.Enumeration.{safeCells, mineCells, unsolvable, enumerated}
@@ -92,6 +93,7 @@ module _ (near : ℕ → List ℕ) (once : (c : ℕ) → nodup (near c) ≡ true
       safe-among = safe (decided (unsolvable (frontier near p)));
       mines-among = mines (decided (unsolvable (frontier near p)));
       no-contradiction = λ m fit. rw (fits-solvable m fit);
+      alone = answer-alone _ _ _ (unsolvable (frontier near p));
     }
       where
         safe : Decided (unsolvable (frontier near p)) → Among (enumerated (frontier near p) .safe) (allCells (frontier near p))

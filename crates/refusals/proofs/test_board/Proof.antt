@@ -83,50 +83,18 @@ numbers-ok-requires c κs =
       whole = lengthOk-is _ _ _ (passed (length .before .length-ok .ensures) (length .if2 .left));
     }
 
-returns-6 : tie.Need-returns-6
-unfolding boardTested
-returns-6 c =
-    let start = c .before .before in
-    let cells = start .before .before in
-    let picture = cells .before .before in
-    let length = picture .before .before in
-    let size = length .before .before in
-    rw (
-      passed (size .before .size-ok .ensures) (size .if1 .left),
-      passed (length .before .length-ok .ensures) (length .if2 .left),
-      passed (picture .before .length-ok2 .ensures) (picture .if3 .left),
-      passed (cells .before .board-cells-ok .ensures) (cells .if4 .left),
-      passed (start .before .start-ok .ensures) (start .if5 .left),
-      failed (c .before .numbers-ok .ensures) (c .if6 .taken),
-    )
-
 zero-ok-requires : tie.Need-zero-ok-requires
 zero-ok-requires c κs = search needs
 
-returns-7 : tie.Need-returns-7
-unfolding boardTested
-returns-7 c =
-    let numbers = c .before .before in
-    let start = numbers .before .before in
-    let cells = start .before .before in
-    let picture = cells .before .before in
-    let length = picture .before .before in
-    let size = length .before .before in
-    rw (
-      passed (size .before .size-ok .ensures) (size .if1 .left),
-      passed (length .before .length-ok .ensures) (length .if2 .left),
-      passed (picture .before .length-ok2 .ensures) (picture .if3 .left),
-      passed (cells .before .board-cells-ok .ensures) (cells .if4 .left),
-      passed (start .before .start-ok .ensures) (start .if5 .left),
-      passed (numbers .before .numbers-ok .ensures) (numbers .if6 .left),
-      failed (c .before .zero-ok .ensures) (c .if7 .taken),
-    )
+number-then-zero-requires : tie.Need-number-then-zero-requires
+number-then-zero-requires c κs = search needs
 
-returns-8 : tie.Need-returns-8
+returns-6 : tie.Need-returns-6
 unfolding boardTested
-returns-8 c =
-    let numbers = c .before .before in
-    let start = numbers .before .before in
+returns-6 c =
+    let zero = c .before in
+    let numbers = zero .before in
+    let start = numbers .before in
     let cells = start .before .before in
     let picture = cells .before .before in
     let length = picture .before .before in
@@ -137,8 +105,9 @@ returns-8 c =
       passed (picture .before .length-ok2 .ensures) (picture .if3 .left),
       passed (cells .before .board-cells-ok .ensures) (cells .if4 .left),
       passed (start .before .start-ok .ensures) (start .if5 .left),
-      passed (numbers .before .numbers-ok .ensures) (numbers .if6 .left),
-      passed (c .before .zero-ok .ensures) (c .if7 .left),
+      c .number-then-zero .ensures,
+      numbers .numbers-ok .ensures,
+      zero .zero-ok .ensures,
     )
 
 pub test-board-spec : {M : Type 1} → statement M
@@ -156,7 +125,6 @@ test-board-spec =
     start-ok-requires
     returns-5
     numbers-ok-requires
-    returns-6
     zero-ok-requires
-    returns-7
-    returns-8)
+    number-then-zero-requires
+    returns-6)
