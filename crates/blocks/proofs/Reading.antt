@@ -21,7 +21,7 @@ noEquation = record { cells = []; rest = 0 }
 abbrev pub noBlock : Block
 noBlock = record { cells = []; equations = [] }
 
-rest-read : (es : List BlockEquation) (e : ℕ) → getD (pad 1024 0 (map (λ (x : BlockEquation). x .rest) es)) e 0 ≡ getD es e noEquation .rest
+pub rest-read : (es : List BlockEquation) (e : ℕ) → getD (pad 1024 0 (map (λ (x : BlockEquation). x .rest) es)) e 0 ≡ getD es e noEquation .rest
 rest-read es e =
     pad-read 1024 0 (map (λ (x : BlockEquation). x .rest) es) e ∙ List·getD-map (λ (x : BlockEquation). x .rest) es e noEquation
 

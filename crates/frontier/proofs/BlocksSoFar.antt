@@ -121,7 +121,7 @@ module _ {rows columns : ℕ} {p beside list : List ℕ} {len : ℕ} (board : Bo
       (omega (arith, board .whole, few-cells (board .sized)))
 
   -- sources of the board are open cells of it
-  all-open : (l : List ℕ) → all isRead l ≡ true → all (λ c. ltb c (rows * columns) && leb (shows p c) 8) l ≡ true
+  pub all-open : (l : List ℕ) → all isRead l ≡ true → all (λ c. ltb c (rows * columns) && leb (shows p c) 8) l ≡ true
   all-open l h = all-implied isRead (λ c. ltb c (rows * columns) && leb (shows p c) 8) l one h
     where
       one : (c : ℕ) → isRead c ≡ true → (ltb c (rows * columns) && leb (shows p c) 8) ≡ true
@@ -132,12 +132,25 @@ module _ {rows columns : ℕ} {p beside list : List ℕ} {len : ℕ} (board : Bo
 
   -- ---- no block is done
 
-  sources-listed : take len list ≡ sources near p
+  pub sources-listed : take len list ≡ sources near p
   unfolding sources
   sources-listed = read .listed ∙ ap (λ (m : ℕ). keep (isSource near p) (range 0 m)) (sym (board .whole))
 
-  all-listed : all isRead (take len list) ≡ true
+  pub all-listed : all isRead (take len list) ≡ true
   all-listed = rw sources-listed (all-read board read)
+
+  -- they are cells, in an array with a count
+  pub listed-cells : Cells list len
+  listed-cells = record {
+    long = read .long;
+    few = omega (arith, read .few, few-cells (board .sized));
+    on-board = all-implied isRead (λ d. ltb d 1024) (take len list) on-board all-listed;
+  }
+    where
+      on-board : (c : ℕ) → isRead c ≡ true → ltb c 1024 ≡ true
+      on-board c h =
+          let below = ltb-true c (rows * columns) (and-left (ltb c (rows * columns)) (isSource near p c) h) in
+          lt-ltb c 1024 (omega (arith, few-cells (board .sized)))
 
   pub none-so-far : BlocksSoFar rows columns p beside list len (replicate 1024 0)
       record {
@@ -156,21 +169,12 @@ module _ {rows columns : ℕ} {p beside list : List ℕ} {len : ℕ} (board : Bo
     cells-counted = refl;
     equations-counted = refl;
     placed = placed-nothing;
-    left-cells = record {
-      long = read .long;
-      few = omega (arith, read .few, few-cells (board .sized));
-      on-board = all-implied isRead (λ d. ltb d 1024) (take len list) on-board all-listed;
-    };
+    left-cells = listed-cells;
     left-sources = all-listed;
     bound = length p;
     enough = omega (arith, read .few, board .whole);
     whole = rw sources-listed (ap (map (blockOf near p)) (read-block-sources board read (length p)));
   }
-    where
-      on-board : (c : ℕ) → isRead c ≡ true → ltb c 1024 ≡ true
-      on-board c h =
-          let below = ltb-true c (rows * columns) (and-left (ltb c (rows * columns)) (isSource near p c) h) in
-          lt-ltb c 1024 (omega (arith, few-cells (board .sized)))
 
   -- ---- some blocks are done
 

@@ -24,6 +24,9 @@ pub mod Placing
 pub mod Insertions
 pub mod Written
 pub mod Remainders
+-- the equations alone, in arrays
+pub mod EquationArrays
+pub mod PlainReading
 -- the two counts, and one block more
 pub mod CountTurns
 pub mod WrittenBlock

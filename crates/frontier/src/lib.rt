@@ -2,6 +2,7 @@
 // listed in reading order, each with its closed neighbours; then blocks grow from the first source left, and their cells and equations are written
 // one block after another.
 pub mod counts;
+pub mod equations;
 pub mod filling;
 pub mod growth;
 pub mod sources;

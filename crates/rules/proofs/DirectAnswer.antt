@@ -3,18 +3,17 @@
 use mathlib.Core.Path.{_≡_, ap, _∙_}
 use mathlib.Core.Bool.{true, false}
 use mathlib.Core.List.{List, [], map}
-use Prim.Native.Nat.{ℕ}
-use lib.ListN.{take}
-use Rattle.blocks.specs.Blocks.{Block}
+use Rattle.blocks.specs.Blocks.{BlockEquation, Block}
 use Rattle.blocks.specs.BlockSets.{allEquations, blockSet, Whole}
 use Rattle.blocks.specs.declared.BlockSet.{BlockSet}
 use Rattle.blocks.proofs.Behind.{set-whole}
 use Rattle.chunks.specs.Chunks.{chunkMatrixes}
 use Rattle.rules.specs.Found.{contradicted}
 use Rattle.rules.specs.Direct.{sureMines, sureSafe, directLeft, negative, direct}
-use Rattle.rules.specs.Marked.{Ready, Listed}
-use Rattle.rules.specs.Answers.{ruleAnswer}
+use Rattle.rules.specs.Marked.{Ready, Sweeps}
+use Rattle.rules.specs.Answers.{ruleAnswer, listsOf, sweptLists}
 use Rattle.rules.specs.declared.answer.RuleAnswer.{RuleAnswer}
+use Rattle.rules.specs.declared.direct.Swept.{Swept}
 use Rattle.rules.proofs.LeftFits.{none-fits}
 use Rattle.rules.proofs.ListedCells.{listed-is}
 use Rattle.rules.proofs.AllBlocks.{mines-of-all, safe-of-all}
@@ -35,12 +34,21 @@ contradicted-whole r e = set-whole [] (r .left) (ap (λ (x : RuleAnswer). x .lef
 
 module _ (bs : List Block) (ready : Ready bs) (fine : negative (map directLeft bs) ≡ false) where
   -- the lists in their arrays, and the blocks left
-  pub answer-found : (safe-marks safe : List ℕ) (safe-count : ℕ) → Listed safe-marks safe safe-count → take safe-count safe ≡ sureSafe (allEquations bs)
-      → (mine-marks mines : List ℕ) (mine-count : ℕ) → Listed mine-marks mines mine-count → take mine-count mines ≡ sureMines (allEquations bs)
-      → (left : BlockSet) → left ≡ blockSet (chunkMatrixes (map directLeft bs))
-      → record { contradiction = false; safe = safe; «safe_count» = safe-count; mines = mines; «mine_count» = mine-count; left = left } ≡ ruleAnswer (direct bs)
+  pub answer-found : (r : Swept) → Sweeps (allEquations bs) r → (left : BlockSet) → left ≡ blockSet (chunkMatrixes (map directLeft bs))
+      → record { contradiction = false; safe = r .safe; «safe_count» = r .«safe_count»; mines = r .mines; «mine_count» = r .«mine_count»; left = left } ≡ ruleAnswer (direct bs)
   unfolding direct ruleAnswer
-  answer-found safe-marks safe safe-count s e mine-marks mines mine-count m f left is =
-      let (safe-array, safe-length) = listed-is safe-marks safe safe-count s _ (e ∙ safe-of-all bs ready) in
-      let (mine-array, mine-length) = listed-is mine-marks mines mine-count m _ (f ∙ mines-of-all bs ready) in
+  answer-found r w left is =
+      let (safe-array, safe-length) = listed-is (r .«safe_marks») (r .safe) (r .«safe_count») (w .safe-listed) _ (w .safe-are ∙ safe-of-all bs ready) in
+      let (mine-array, mine-length) = listed-is (r .«mine_marks») (r .mines) (r .«mine_count») (w .mines-listed) _ (w .mines-are ∙ mines-of-all bs ready) in
       rw (fine, safe-array, safe-length, mine-array, mine-length, is)
+
+-- ---- the lists alone
+
+-- those of the two sweeps over any equations
+pub lists-swept : (es : List BlockEquation) (r : Swept) → Sweeps es r
+    → record { safe = r .safe; «safe_count» = r .«safe_count»; mines = r .mines; «mine_count» = r .«mine_count» } ≡ sweptLists es
+unfolding listsOf
+lists-swept es r w =
+    let (safe-array, safe-length) = listed-is (r .«safe_marks») (r .safe) (r .«safe_count») (w .safe-listed) _ (w .safe-are) in
+    let (mine-array, mine-length) = listed-is (r .«mine_marks») (r .mines) (r .«mine_count») (w .mines-listed) _ (w .mines-are) in
+    rw (safe-array, safe-length, mine-array, mine-length)

@@ -5,8 +5,8 @@
 use mathlib.Core.Path.{_≡_, refl, _∙_}
 use mathlib.Core.Logic.{_↔_}
 use mathlib.Core.Bool.{Bool, true, not, _&&_}
-use mathlib.Core.List.{List, map, List·Memᴰ, Memᴰ·map, Memᴰ·of-map}
-use Prim.Native.Nat.{ℕ, _+_, _-_, _≤_}
+use mathlib.Core.List.{List, List·Memᴰ, Memᴰ·map, Memᴰ·of-map}
+use Prim.Native.Nat.{ℕ, _+_, _≤_}
 use native.Mathlib.Omega.{arith}
 use lib.Dec.{ltb, eqb}
 use lib.ListN.{length}
@@ -22,6 +22,7 @@ use Rattle.fitting.specs.Equations.{isKnownMine}
 use Rattle.blocks.specs.Blocks.{BlockEquation}
 use Rattle.blocks.specs.BlockSets.{allEquations}
 use Rattle.frontier.specs.Frontier.{closedBeside, sources, equationOf, cellsMet, blockOf, frontier}
+use Rattle.frontier.specs.Equations.{knownBeside, plainEquation, plainEquations}
 use Rattle.frontier.proofs.ListedSources.{listed-source, source-listed}
 use Rattle.frontier.proofs.Partition.{source-in-part, part-has-sources}
 use Rattle.frontier.proofs.BlockLaws.{block-equation, source-equation, equation-rearranged, frontier-proper, Origin, equation-origin}
@@ -30,10 +31,6 @@ use Rattle.rules.specs.Direct.{full, direct}
 use Rattle.rules.proofs.OrderFree.{isMineOf, onlyThose, tooFew, isSafeOf, isContradictory, direct-contradiction-free, direct-mines-free, direct-safe-free, Alike, SameEquations, same-mine, same-safe, same-contradictory}
 
 -- ---- the tests at a position
-
--- the known mines around a cell
-abbrev pub knownBeside : (ℕ → List ℕ) → List ℕ → ℕ → ℕ
-knownBeside near p d = count (isKnownMine p) (near d)
 
 -- an open cell shows as many as it has closed cells and known mines around it
 abbrev pub fullAt : (ℕ → List ℕ) → List ℕ → ℕ → Bool
@@ -75,14 +72,6 @@ beside-open near p t c = (there, back)
         (source-listed near p d o (has-not-empty (closedBeside near p d) c y)) (rw (x, y))
 
 -- ---- the equations of the open cells, in reading order
-
--- the equation of an open cell, over the closed cells beside it
-abbrev pub plainEquation : (ℕ → List ℕ) → List ℕ → ℕ → BlockEquation
-plainEquation near p d = record { cells = closedBeside near p d; rest = (shows p d + 8) - knownBeside near p d }
-
--- those of all sources
-abbrev pub plainEquations : (ℕ → List ℕ) → List ℕ → List BlockEquation
-plainEquations near p = map (plainEquation near p) (sources near p)
 
 module _ (near : ℕ → List ℕ) (p : List ℕ) (once : (c : ℕ) → nodup (near c) ≡ true) where
   -- the equation of a source in its block is like its plain one

@@ -9,6 +9,7 @@ pub mod Soundness
 -- what the direct rule finds does not depend on its order
 pub mod OrderFree
 pub mod FromPosition
+pub mod SweptEquations
 -- what the functions rest on: cells marked, and listed by their marks
 pub mod MarkedCells
 pub mod ByMarks
@@ -33,7 +34,10 @@ pub mod ReadyBlocks
 pub mod MarkedSoFar
 pub mod Pairs
 pub mod MinusMarks
+pub mod OwnLists
 pub mod MinusAnswer
+pub mod SweptLeft
+pub mod MinusLists
 -- calls on a position: what they are told, what they hand on and what they write
 pub mod FrontierReady
 pub mod Handed

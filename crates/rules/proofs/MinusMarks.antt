@@ -3,7 +3,7 @@
 -- the marks is what the rule leaves. Rests on the laws of ready blocks. Assumes nothing.
 use mathlib.Core.Path.{_≡_, refl, sym, ap, _∙_}
 use mathlib.Core.Bool.{Bool, true, false, not, cond, _&&_, _||_}
-use mathlib.Core.List.{List, [], _∷_, map, reverse, List·Memᴰ}
+use mathlib.Core.List.{List, [], _∷_, map, map-map, reverse, List·Memᴰ}
 use Prim.Native.Nat.{ℕ, _<_}
 use lib.Dec.{eqb, ltb}
 use lib.ListN.{getD, replicate}
@@ -16,14 +16,14 @@ use Rattle.lists.proofs.Elements.{replicate-all}
 use Rattle.lists.proofs.Kept.{keep-all, keep-both, keep-ext}
 use Rattle.lists.proofs.Occurrences.{reverse-in}
 use Rattle.blocks.specs.Blocks.{BlockEquation, Block}
-use Rattle.blocks.specs.BlockSets.{allCells}
+use Rattle.blocks.specs.BlockSets.{allCells, allEquations}
 use Rattle.blocks.specs.Places.{marked}
 use Rattle.rules.specs.Found.{lessMines, lessSafe}
 use Rattle.rules.specs.Direct.{fromLast}
-use Rattle.rules.specs.Minus.{ownCells, minusMines, minusSafe, minusLeft, minusBlocks}
+use Rattle.rules.specs.Minus.{ownCells, minusMines, minusSafe, minusLeft, leftOf, minusBlocks}
 use Rattle.rules.specs.Marked.{Ready, leftEquation, stays, leftEquations, leftBlock, leftBlocks}
 use Rattle.lists.proofs.Among.{among-has}
-use Rattle.lists.proofs.TurnedRound.{map-agree}
+use Rattle.lists.proofs.TurnedRound.{map-agree, map-joined}
 use Rattle.lists.proofs.ListsOfElements.{one-among, any-one, joined-unless}
 use Rattle.rules.proofs.MinusLaws.{some-pair}
 use Rattle.rules.proofs.Pairs.{minesOf, safeOf}
@@ -142,6 +142,16 @@ module _ (bs : List Block) (ready : Ready bs) (mines safe : List ℕ)
           let equations = keep-all (stays true) (map (leftEquation mines known) (b .equations)) (λ e. refl)
           ∙ map-agree (leftEquation mines known) (λ (e : BlockEquation). lessSafe (minusSafe b) (lessMines (minusMines b) e)) (b .equations) equation-left in
           rw (cells, equations)
+
+    -- what the marks leave of all equations is what the rule leaves of them
+    pub equations-left : leftEquations true mines known (allEquations bs) ≡ leftOf bs
+    unfolding leftEquations minusLeft
+    equations-left =
+        keep-all (stays true) (map (leftEquation mines known) (allEquations bs)) (λ e. refl)
+        ∙ map-joined (leftEquation mines known) (λ (b : Block). b .equations) bs
+        ∙ ap joined (map-agree (λ (b : Block). map (leftEquation mines known) (b .equations)) (λ (b : Block). minusLeft b .equations) bs
+        (λ b m. map-agree (leftEquation mines known) (λ (e : BlockEquation). lessSafe (minusSafe b) (lessMines (minusMines b) e)) (b .equations) (equation-left b m)))
+        ∙ ap joined (sym (map-map (λ (b : Block). b .equations) minusLeft bs))
 
     -- what the marks leave of all blocks is what the rule leaves
     pub marks-left : leftBlocks true mines known bs ≡ minusBlocks bs

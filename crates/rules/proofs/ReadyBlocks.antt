@@ -25,7 +25,7 @@ use Rattle.rules.specs.Marked.{Ready}
 use Rattle.rules.proofs.TakenOut.{less-mines-once, less-safe-once}
 use Rattle.rules.proofs.DirectLaws.{sure-mine-equation, sure-safe-equation, sure-mines-once, sure-safe-once, direct-mines, direct-safe}
 use Rattle.rules.proofs.MinusLaws.{minus-mines-among, minus-safe-among, listed-among}
-use Rattle.rules.proofs.SmallerBlocks.{hasCell, minus-among}
+use Rattle.rules.proofs.SmallerBlocks.{hasCell, left-among, minus-among}
 
 -- ---- one block
 
@@ -90,17 +90,26 @@ minus-left-ready b ready = record {
         (kept-passes (λ x. not (has (minusSafe b) x)) (lessMines (minusMines b) d .cells) c h))
         (ready .inside d n c (kept-has (λ x. not (has (minusMines b) x)) (d .cells) c k))
 
--- so all that are left are ready
+-- each of all that are left
+left-each-ready : (bs : List Block) → Ready bs → Each ReadyBlock (map minusLeft bs)
+left-each-ready bs ready = each-mapped ReadyBlock minusLeft bs (λ b m. minus-left-ready b (ready-block bs ready b m))
+
+-- so they are ready, those without a cell too
+pub all-left-ready : (bs : List Block) → Ready bs → Ready (map minusLeft bs)
+all-left-ready bs ready =
+    blocks-ready (map minusLeft bs) (among-nodup (allCells (map minusLeft bs)) (allCells bs) (left-among bs) (ready .once)) (left-each-ready bs ready)
+
+-- and so are those that the rule keeps
 pub minus-ready : (bs : List Block) → Ready bs → Ready (minusBlocks bs)
 minus-ready bs ready =
     blocks-ready (minusBlocks bs) (among-nodup (allCells (minusBlocks bs)) (allCells bs) (minus-among bs) (ready .once))
-    (each-kept ReadyBlock hasCell (map minusLeft bs) (each-mapped ReadyBlock minusLeft bs (λ b m. minus-left-ready b (ready-block bs ready b m))))
+    (each-kept ReadyBlock hasCell (map minusLeft bs) (left-each-ready bs ready))
 
 -- ---- room for the lists
 
 -- the lists of a direct pass stand among the cells
 module _ (bs : List Block) (ready : Ready bs) where
-  lists-among : (g : Block → List ℕ) → ((b : Block) → nodup (g b) ≡ true) → ((b : Block) → ReadyBlock b → (c : ℕ) → has (g b) c ≡ true → has (b .cells) c ≡ true)
+  pub lists-among : (g : Block → List ℕ) → ((b : Block) → nodup (g b) ≡ true) → ((b : Block) → ReadyBlock b → (c : ℕ) → has (g b) c ≡ true → has (b .cells) c ≡ true)
       → (t : Bool) → Among (cond t [] (fromLast g bs)) (allCells bs)
   lists-among g once within true f = omega arith
   lists-among g once within false f =

@@ -158,8 +158,11 @@ minus-smaller b = record {
 abbrev pub hasCell : Block → Bool
 hasCell b = not (empty (b .cells))
 
+pub left-among : (bs : List Block) → Among (allCells (map minusLeft bs)) (allCells bs)
+left-among = made-among minusLeft minus-smaller
+
 pub minus-among : (bs : List Block) → Among (allCells (minusBlocks bs)) (allCells bs)
-minus-among bs f = omega (arith, some-among hasCell (map minusLeft bs) f, made-among minusLeft minus-smaller bs f)
+minus-among bs f = omega (arith, some-among hasCell (map minusLeft bs) f, left-among bs f)
 
 pub minus-fits : (bs : List Block) → Small bs → Small (minusBlocks bs)
 minus-fits bs s = some-fits hasCell (map minusLeft bs) (made-fits minusLeft minus-smaller bs s)

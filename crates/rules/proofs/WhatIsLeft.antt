@@ -81,7 +81,7 @@ module _ (subtracted : Bool) (mines known : List ℕ) where
       go (inl t) = omega (arith, ap length (dropped b t))
       go (inr t) = omega (arith, ap length (stayed b t))
 
-  equations-fewer : (es : List BlockEquation) → length (leftEquations subtracted mines known es) ≤ length es
+  pub equations-fewer : (es : List BlockEquation) → length (leftEquations subtracted mines known es) ≤ length es
   unfolding leftEquations
   equations-fewer es = omega (arith, keep-fewer (stays subtracted) (map (leftEquation mines known) es), length-map es (leftEquation mines known))
 
@@ -111,7 +111,7 @@ module _ (subtracted : Bool) (mines known : List ℕ) where
   -- ---- a test of each equation
 
   module _ (p : BlockEquation → Bool) (goes-on : (e : BlockEquation) → p e ≡ true → p (leftEquation mines known e) ≡ true) where
-    equations-pass : (es : List BlockEquation) → all p es ≡ true → all p (leftEquations subtracted mines known es) ≡ true
+    pub equations-pass : (es : List BlockEquation) → all p es ≡ true → all p (leftEquations subtracted mines known es) ≡ true
     unfolding leftEquations
     equations-pass es h = all-keep p (stays subtracted) (map (leftEquation mines known) es) (all-mapped p p (leftEquation mines known) es goes-on h)
 
@@ -137,7 +137,7 @@ module _ (subtracted : Bool) (mines known : List ℕ) where
 
   -- ---- what fits
 
-  small-left : (e : BlockEquation) → smallEquation e ≡ true → smallEquation (leftEquation mines known e) ≡ true
+  pub small-left : (e : BlockEquation) → smallEquation e ≡ true → smallEquation (leftEquation mines known e) ≡ true
   small-left e h =
       let few = leb (length (e .cells)) 8 in
       let below = all (λ c. ltb c 1024) (e .cells) in

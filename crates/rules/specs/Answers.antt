@@ -1,7 +1,7 @@
 -- The answers of the two rules: of a rule on blocks, and of a call on a position. Assumes nothing.
 use mathlib.Core.Path.{_≡_}
 use mathlib.Core.Bool.{Bool, true, cond}
-use mathlib.Core.List.{List, [], map}
+use mathlib.Core.List.{List, [], _++_, map}
 use Prim.Native.Nat.{ℕ, _≤_}
 use lib.Dec.{ltb}
 use lib.ListN.{length, getD, take}
@@ -13,13 +13,14 @@ use Rattle.refusals.specs.declared.Refusal.the-variants.{Contradiction}
 use Rattle.refusals.specs.declared.Tested.{Tested}
 use Rattle.refusals.specs.declared.Tested.the-variants.{Accepted, Refused}
 use Rattle.refusals.specs.Tests.{deductionTested}
-use Rattle.blocks.specs.Blocks.{Block}
+use Rattle.blocks.specs.Blocks.{BlockEquation, Block}
 use Rattle.blocks.specs.BlockSets.{blockSet, blocksOf}
 use Rattle.frontier.specs.Frontier.{frontier}
 use Rattle.rules.specs.Found.{Found, contradicted}
-use Rattle.rules.specs.Direct.{direct}
-use Rattle.rules.specs.Minus.{subtraction}
+use Rattle.rules.specs.Direct.{sureMines, sureSafe, fromLast, direct}
+use Rattle.rules.specs.Minus.{minusMines, minusSafe, leftOf, subtraction}
 use Rattle.rules.specs.declared.answer.RuleAnswer.{RuleAnswer}
+use Rattle.rules.specs.declared.answer.Lists.{Lists}
 use Rattle.rules.specs.declared.answer.DeductionAnswer.{DeductionAnswer}
 
 -- ---- a rule on blocks
@@ -35,7 +36,23 @@ ruleAnswer f = record {
   left = blockSet (f .left);
 }
 
--- back: what the struct holds
+-- the struct that holds two lists
+unfoldable pub listsOf : (safe mines : List ℕ) → Lists
+listsOf safe mines = record { safe = pad 1024 0 safe; «safe_count» = length safe; mines = pad 1024 0 mines; «mine_count» = length mines }
+
+-- what the two sweeps find in equations
+abbrev pub sweptLists : List BlockEquation → Lists
+sweptLists es = listsOf (sureSafe es) (sureMines es)
+
+-- what subtraction finds in blocks: its own lists, then what the sweeps find in all that is left
+abbrev pub minusLists : List Block → Lists
+minusLists bs = listsOf (fromLast minusSafe bs ++ sureSafe (leftOf bs)) (fromLast minusMines bs ++ sureMines (leftOf bs))
+
+-- the lists of an answer
+abbrev pub listsIn : RuleAnswer → Lists
+listsIn r = record { safe = r .safe; «safe_count» = r .«safe_count»; mines = r .mines; «mine_count» = r .«mine_count» }
+
+-- back: what the answer holds
 unfoldable pub foundIn : RuleAnswer → Found
 foundIn r = record {
   contradiction = r .contradiction;

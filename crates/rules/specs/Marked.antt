@@ -8,9 +8,12 @@ use lib.Dec.{eqb, ltb}
 use lib.ListN.{length, getD, take}
 use Rattle.lists.specs.Lists.{range, keep, count, any, all, empty, has, nodup, joined, pad}
 use Rattle.blocks.specs.Blocks.{BlockEquation, Block}
-use Rattle.blocks.specs.BlockSets.{allCells, slotCells, beginAt}
+use Rattle.blocks.specs.BlockSets.{allCells, allEquations, slotCells, beginAt}
 use Rattle.blocks.specs.Places.{marked, Marks, Cells, cellsFrom}
-use Rattle.rules.specs.Minus.{exceeds}
+use Rattle.rules.specs.Direct.{sureMines, sureSafe, fromLast}
+use Rattle.rules.specs.Minus.{exceeds, minusMines, minusSafe, leftOf, minusBlocks}
+use Rattle.rules.specs.declared.direct.Swept.{Swept}
+use Rattle.rules.specs.declared.minus.Subtracted.{Subtracted}
 
 -- ---- blocks as the frontier gives them and the rules keep them
 
@@ -43,6 +46,13 @@ pub record Listed (marks out : List ℕ) (n : ℕ) : Type 0 where
   pub shown : Marks marks (take n out)
   pub once : nodup (take n out) ≡ true
   pub below : all (λ c. ltb c 1024) (take n out) ≡ true
+
+-- the lists of the two sweeps over equations
+pub record Sweeps (es : List BlockEquation) (r : Swept) : Type 0 where
+  pub safe-listed : Listed (r .«safe_marks») (r .safe) (r .«safe_count»)
+  pub safe-are : take (r .«safe_count») (r .safe) ≡ sureSafe es
+  pub mines-listed : Listed (r .«mine_marks») (r .mines) (r .«mine_count»)
+  pub mines-are : take (r .«mine_count») (r .mines) ≡ sureMines es
 
 -- ---- what is left by the marks: mines are marked, and so are known cells
 
@@ -81,3 +91,12 @@ pub record Once (slots : List ℕ) (end : ℕ) : Type 0 where
 -- an equation exceeds one of a list, and the two pass a test
 abbrev pub someOther : (BlockEquation → BlockEquation → Bool) → BlockEquation → List BlockEquation → Bool
 someOther t e es = any (λ (f : BlockEquation). exceeds e f && t e f) es
+
+-- what all pairs of all blocks tell: the rule's own lists, in arrays, and marks by which there is left what the rule leaves
+pub record Subtracts (bs : List Block) (r : Subtracted) : Type 0 where
+  pub safe-are : r .safe ≡ pad 1024 0 (fromLast minusSafe bs)
+  pub safe-counted : r .«safe_count» ≡ length (fromLast minusSafe bs)
+  pub mines-are : r .mines ≡ pad 1024 0 (fromLast minusMines bs)
+  pub mines-counted : r .«mine_count» ≡ length (fromLast minusMines bs)
+  pub blocks-left : leftBlocks true (r .«mine_marks») (r .known) bs ≡ minusBlocks bs
+  pub equations-left : leftEquations true (r .«mine_marks») (r .known) (allEquations bs) ≡ leftOf bs

@@ -8,6 +8,7 @@ use lib.Dec.{eqb}
 use lib.ListN.{length}
 use Rattle.lists.specs.Lists.{keep, any, empty, has, meets}
 use Rattle.blocks.specs.Blocks.{BlockEquation, Block}
+use Rattle.blocks.specs.BlockSets.{allEquations}
 use Rattle.chunks.specs.Chunks.{chunkMatrixes}
 use Rattle.rules.specs.Found.{Found, contradicted, found, lessMines, lessSafe}
 use Rattle.rules.specs.Direct.{fromLast, direct}
@@ -38,6 +39,10 @@ minusLeft b = record {
   cells = keep (λ c. not (has (minusMines b) c || has (minusSafe b) c)) (b .cells);
   equations = map (λ (e : BlockEquation). lessSafe (minusSafe b) (lessMines (minusMines b) e)) (b .equations);
 }
+
+-- what is left of the equations of all blocks, block after block
+abbrev pub leftOf : List Block → List BlockEquation
+leftOf bs = allEquations (map minusLeft bs)
 
 -- the blocks that still have a cell
 abbrev pub minusBlocks : List Block → List Block

@@ -13,7 +13,7 @@ ghost use lib.Dec.{ltb};
 ghost use lib.ListN.{length, take};
 ghost use Rattle.lists.specs.Lists.{all};
 ghost use Rattle.rules.specs.Found.{contradicted};
-ghost use Rattle.rules.specs.Answers.{ruleAnswer, refusedAnswer, toldBy, written, afterFound, foundIn, Held, seen};
+ghost use Rattle.rules.specs.Answers.{ruleAnswer, listsIn, refusedAnswer, toldBy, written, afterFound, foundIn, Held, seen};
 
 // What a rule finds in a block set: a contradiction, or two lists of cells with their counts, and the blocks left. Entries past a count are 0.
 pub struct RuleAnswer {
@@ -23,6 +23,28 @@ pub struct RuleAnswer {
     pub mines: [u16; 1024],
     pub mine_count: usize,
     pub left: BlockSet,
+}
+
+// The two lists of a rule alone. Entries past a count are 0.
+pub struct Lists {
+    pub safe: [u16; 1024],
+    pub safe_count: usize,
+    pub mines: [u16; 1024],
+    pub mine_count: usize,
+}
+
+// The lists of an answer.
+pub fn lists_of(found: RuleAnswer) -> Lists
+    ensures { λ r. ⌜ r ≡ listsIn found ⌝ }
+{
+    let safe = found.safe;
+    let mines = found.mines;
+    Lists {
+        safe,
+        safe_count: found.safe_count,
+        mines,
+        mine_count: found.mine_count,
+    }
 }
 
 // The contradiction, with empty lists and no blocks.

@@ -1,6 +1,7 @@
 // solve_direct on a block set. First sweep: the cells of each equation with as many mines as cells are mines. Second sweep: with these taken out, the cells
 // of each equation with no mine left are safe. Both go from the last equation to the first, and in each from its last cell to its first. No cell stands
 // in two blocks, so the sweeps need not know where a block ends.
+use super::answer::Lists;
 use super::answer::RuleAnswer;
 use super::answer::contradiction;
 use super::left::has_negative;
@@ -11,6 +12,7 @@ use blocks::BlockSet;
 use blocks::begin_at;
 use blocks::slots_at;
 use chunks::chunk_matrixes;
+use frontier::equations::Equations;
 use grid::window::Neighbours;
 use grid::window::wide;
 ghost use mathlib.Core.Path.{_≡_};
@@ -22,8 +24,8 @@ ghost use Rattle.lists.specs.Lists.{keep, addNew};
 ghost use Rattle.blocks.specs.BlockSets.{blocksOf, Whole};
 ghost use Rattle.blocks.specs.Places.{marked, Marks, OnBoard, Slots, equationsFrom};
 ghost use Rattle.rules.specs.Direct.{sureMines, sureSafe, direct};
-ghost use Rattle.rules.specs.Marked.{Ready, Listed};
-ghost use Rattle.rules.specs.Answers.{ruleAnswer};
+ghost use Rattle.rules.specs.Marked.{Ready, Listed, Sweeps};
+ghost use Rattle.rules.specs.Answers.{ruleAnswer, sweptLists};
 
 // The i-th of `len` places counted from the last, which is the 0-th.
 fn from_last(len: usize, i: usize) -> usize
@@ -117,6 +119,77 @@ fn sweep_safe(
     n
 }
 
+// What the two sweeps find: the mines and the safe cells, each marked, and in a list with its count. Entries past a count are 0.
+pub struct Swept {
+    pub mine_marks: [u8; 1024],
+    pub safe_marks: [u8; 1024],
+    pub safe: [u16; 1024],
+    pub safe_count: usize,
+    pub mines: [u16; 1024],
+    pub mine_count: usize,
+}
+
+// The two sweeps over equations, in whatever blocks and order.
+fn sweep(slots: &[u16; 8192], rests: &[u8; 1024], equations: usize) -> Swept
+    requires { ⌜ Slots (now slots) equations ⌝ }
+    ensures { λ r. ⌜ Sweeps (equationsFrom (now (slots .entry)) (now (rests .entry)) 0 equations) r ⌝ }
+{
+    let mut mine_marks = [0u8; 1024];
+    let mut safe_marks = [0u8; 1024];
+    let mut mines = [0u16; 1024];
+    let mut safe = [0u16; 1024];
+    let mine_count = sweep_mines(
+        slots,
+        rests,
+        equations,
+        &safe_marks,
+        &mut mine_marks,
+        &mut mines,
+    );
+    let safe_count = sweep_safe(
+        slots,
+        rests,
+        equations,
+        &mine_marks,
+        &mut safe_marks,
+        &mut safe,
+    );
+    Swept {
+        mine_marks,
+        safe_marks,
+        safe,
+        safe_count,
+        mines,
+        mine_count,
+    }
+}
+
+// Their lists alone.
+pub fn swept_cells(slots: &[u16; 8192], rests: &[u8; 1024], equations: usize) -> Lists
+    requires { ⌜ Slots (now slots) equations ⌝ }
+    ensures { λ r. ⌜ r ≡ sweptLists (equationsFrom (now (slots .entry)) (now (rests .entry)) 0 equations) ⌝ }
+{
+    let found = sweep(slots, rests, equations);
+    let safe = found.safe;
+    let mines = found.mines;
+    Lists {
+        safe,
+        safe_count: found.safe_count,
+        mines,
+        mine_count: found.mine_count,
+    }
+}
+
+// What solve_direct finds at a position, from its equations alone: no block is read, none is left.
+pub fn direct_cells(equations: Equations) -> Lists
+    requires { ⌜ Slots (equations .slots) (equations .len) ⌝ }
+    ensures { λ r. ⌜ r ≡ sweptLists (equationsFrom (equations .slots) (equations .rests) 0 (equations .len)) ⌝ }
+{
+    let slots = equations.slots;
+    let rests = equations.rests;
+    swept_cells(&slots, &rests, equations.len)
+}
+
 // solve_direct on blocks: the two sweeps, refusal 6 where an equation left over is negative, and the blocks left, split anew.
 pub fn direct_rule(set: BlockSet) -> RuleAnswer
     requires { ⌜ Whole set ⌝ }
@@ -127,38 +200,23 @@ pub fn direct_rule(set: BlockSet) -> RuleAnswer
     let slots = set.slots;
     let rests = set.rests;
     let equations = begin_at(&set.equation_ends, set.blocks);
-    let mut mine_marks = [0u8; 1024];
-    let mut safe_marks = [0u8; 1024];
-    let mut mines = [0u16; 1024];
-    let mut safe = [0u16; 1024];
-    let mine_count = sweep_mines(
-        &slots,
-        &rests,
-        equations,
-        &safe_marks,
-        &mut mine_marks,
-        &mut mines,
-    );
-    let safe_count = sweep_safe(
-        &slots,
-        &rests,
-        equations,
-        &mine_marks,
-        &mut safe_marks,
-        &mut safe,
-    );
+    let found = sweep(&slots, &rests, equations);
+    let mine_marks = found.mine_marks;
+    let safe_marks = found.safe_marks;
     let known = marked_in_one(&mine_marks, &safe_marks);
     let left = left_blocks(set, &mine_marks, &known, false);
     let end = begin_at(&left.equation_ends, left.blocks);
     if has_negative(&left.rests, end) {
         return contradiction();
     }
+    let safe = found.safe;
+    let mines = found.mines;
     RuleAnswer {
         contradiction: false,
         safe,
-        safe_count,
+        safe_count: found.safe_count,
         mines,
-        mine_count,
+        mine_count: found.mine_count,
         left: chunk_matrixes(left),
     }
 }

@@ -63,7 +63,7 @@ fn rest_stays(subtracted: bool, rest: u8) -> bool
 }
 
 // The equations between two places that stay go to `out` from place `at` on.
-fn left_slots(
+pub fn left_slots(
     slots: &[u16; 8192],
     rests: &[u8; 1024],
     first: usize,
@@ -92,7 +92,7 @@ fn left_slots(
 }
 
 // Their remainders go to `out` from place `at` on.
-fn left_rests(
+pub fn left_rests(
     slots: &[u16; 8192],
     rests: &[u8; 1024],
     first: usize,

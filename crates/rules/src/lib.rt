@@ -1,5 +1,5 @@
-// The direct and the subtraction rule: on a block set, which the verdict uses, and as calls on a position, which read a fresh frontier, hand out two lists of
-// cells and mark them. specs/Direct.antt and specs/Minus.antt say what a rule finds in blocks, specs/Answers.antt what a caller sees.
+// The direct and the subtraction rule: on a block set; as calls on a position, which read a fresh frontier, hand out two lists of cells and mark them; and their
+// lists alone, which the verdict uses. specs/Direct.antt and specs/Minus.antt say what a rule finds in blocks, specs/Answers.antt what a caller sees.
 pub mod answer;
 pub mod direct;
 pub mod left;

@@ -1,9 +1,13 @@
 // solve_minus on a block set. Of two equations that share a cell, where the one has as many own cells as it has mines more, these are mines and the other's
 // own cells are safe. All ordered pairs of a block's equations are looked at before a cell is taken out; an equation beside itself has no own cells and
 // marks none. Then the direct rule runs on what is left.
+use super::answer::Lists;
 use super::answer::RuleAnswer;
 use super::direct::direct_rule;
+use super::direct::swept_cells;
 use super::left::left_blocks;
+use super::left::left_rests;
+use super::left::left_slots;
 use super::listing::list_blocks;
 use super::listing::put_list;
 use super::marks::count_marked;
@@ -16,16 +20,16 @@ use blocks::slots_at;
 use chunks::chunk_matrixes;
 use grid::window::wide;
 ghost use mathlib.Core.Path.{_≡_};
-ghost use mathlib.Core.Bool.{_&&_, _||_};
+ghost use mathlib.Core.Bool.{true, _&&_, _||_};
 ghost use Prim.Native.Nat.{ℕ, _≤_, _<_};
 ghost use lib.ListN.{length, getD};
-ghost use Rattle.lists.specs.Lists.{range, any, has};
+ghost use Rattle.lists.specs.Lists.{range, any, all, has};
 ghost use Rattle.blocks.specs.Blocks.{BlockEquation};
-ghost use Rattle.blocks.specs.BlockSets.{blocksOf, beginAt, Whole};
+ghost use Rattle.blocks.specs.BlockSets.{blocksOf, beginAt, smallEquation, Whole};
 ghost use Rattle.blocks.specs.Places.{marked, Slots, equationsFrom};
 ghost use Rattle.rules.specs.Minus.{ownCells, somePair, subtraction};
-ghost use Rattle.rules.specs.Marked.{Ready, Once, equationIn, someOther};
-ghost use Rattle.rules.specs.Answers.{ruleAnswer};
+ghost use Rattle.rules.specs.Marked.{Ready, Once, equationIn, someOther, leftEquations, Subtracts};
+ghost use Rattle.rules.specs.Answers.{ruleAnswer, sweptLists, minusLists};
 
 // A remainder plus 8, as wide as a count.
 fn wide_rest(rest: u8) -> usize
@@ -115,12 +119,40 @@ fn subtract_blocks(
     }
 }
 
-// solve_minus on blocks: its own lists, then those of the direct rule on what is left, and the blocks that this leaves, split once more.
-pub fn minus_rule(set: BlockSet) -> RuleAnswer
+// The direct rule's sweeps over what is left of equations once cells are known.
+fn sweep_left(
+    slots: &[u16; 8192],
+    rests: &[u8; 1024],
+    equations: usize,
+    mines: &[u8; 1024],
+    known: &[u8; 1024],
+) -> Lists
+    requires { ⌜ Slots (now slots) equations ⌝ }
+    requires { ⌜ all smallEquation (equationsFrom (now slots) (now rests) 0 equations) ≡ true ⌝ }
+    ensures { λ r. ⌜ r ≡ sweptLists (leftEquations true (now (mines .entry)) (now (known .entry)) (equationsFrom (now (slots .entry)) (now (rests .entry)) 0 equations)) ⌝ }
+{
+    let mut left = [65535u16; 8192];
+    let mut less = [0u8; 1024];
+    let len = left_slots(slots, rests, 0, equations, mines, known, true, &mut left, 0);
+    left_rests(slots, rests, 0, equations, mines, known, true, &mut less, 0);
+    swept_cells(&left, &less, len)
+}
+
+// What all pairs of equations tell: the cells that they mark as mines, those that they mark at all, and both in lists with their counts.
+pub struct Subtracted {
+    pub mine_marks: [u8; 1024],
+    pub known: [u8; 1024],
+    pub safe: [u16; 1024],
+    pub safe_count: usize,
+    pub mines: [u16; 1024],
+    pub mine_count: usize,
+}
+
+// The pairs of all blocks: marks, and the rule's own lists.
+fn subtract(set: BlockSet) -> Subtracted
     requires { ⌜ Whole set ⌝ }
     requires { ⌜ Ready (blocksOf set) ⌝ }
-    ensures { λ r. ⌜ r ≡ ruleAnswer (subtraction (blocksOf set)) ⌝ }
-    ensures { λ r. ⌜ Whole (r .left) ⌝ }
+    ensures { λ r. ⌜ Subtracts (blocksOf set) r ⌝ }
 {
     let mut mine_marks = [0u8; 1024];
     let mut safe_marks = [0u8; 1024];
@@ -140,23 +172,72 @@ pub fn minus_rule(set: BlockSet) -> RuleAnswer
     let mut safe = [0u16; 1024];
     let cells = set.cells;
     let cell_ends = set.cell_ends;
-    let own_mines = list_blocks(&cells, &cell_ends, blocks, &mine_marks, &mut mines);
-    let own_safe = list_blocks(&cells, &cell_ends, blocks, &safe_marks, &mut safe);
+    let mine_count = list_blocks(&cells, &cell_ends, blocks, &mine_marks, &mut mines);
+    let safe_count = list_blocks(&cells, &cell_ends, blocks, &safe_marks, &mut safe);
     let known = marked_in_one(&mine_marks, &safe_marks);
-    let rule = direct_rule(left_blocks(set, &mine_marks, &known, true));
+    Subtracted {
+        mine_marks,
+        known,
+        safe,
+        safe_count,
+        mines,
+        mine_count,
+    }
+}
+
+// solve_minus on blocks: its own lists, then those of the direct rule on what is left, and the blocks that this leaves, split once more.
+pub fn minus_rule(set: BlockSet) -> RuleAnswer
+    requires { ⌜ Whole set ⌝ }
+    requires { ⌜ Ready (blocksOf set) ⌝ }
+    ensures { λ r. ⌜ r ≡ ruleAnswer (subtraction (blocksOf set)) ⌝ }
+    ensures { λ r. ⌜ Whole (r .left) ⌝ }
+{
+    let own = subtract(set);
+    let marks = own.mine_marks;
+    let known = own.known;
+    let rule = direct_rule(left_blocks(set, &marks, &known, true));
     if rule.contradiction {
         return rule;
     }
+    let mut mines = own.mines;
+    let mut safe = own.safe;
     let more_mines = rule.mines;
     let more_safe = rule.safe;
-    put_list(&more_mines, rule.mine_count, &mut mines, own_mines);
-    put_list(&more_safe, rule.safe_count, &mut safe, own_safe);
+    put_list(&more_mines, rule.mine_count, &mut mines, own.mine_count);
+    put_list(&more_safe, rule.safe_count, &mut safe, own.safe_count);
     RuleAnswer {
         contradiction: false,
         safe,
-        safe_count: own_safe + rule.safe_count,
+        safe_count: own.safe_count + rule.safe_count,
         mines,
-        mine_count: own_mines + rule.mine_count,
+        mine_count: own.mine_count + rule.mine_count,
         left: chunk_matrixes(rule.left),
+    }
+}
+
+// What solve_minus finds in blocks, its two lists alone: its own, then those of the sweeps over all equations that are left. No block is written anew.
+pub fn minus_cells(set: BlockSet) -> Lists
+    requires { ⌜ Whole set ⌝ }
+    requires { ⌜ Ready (blocksOf set) ⌝ }
+    ensures { λ r. ⌜ r ≡ minusLists (blocksOf set) ⌝ }
+{
+    let own = subtract(set);
+    let marks = own.mine_marks;
+    let known = own.known;
+    let slots = set.slots;
+    let rests = set.rests;
+    let equations = begin_at(&set.equation_ends, set.blocks);
+    let more = sweep_left(&slots, &rests, equations, &marks, &known);
+    let mut mines = own.mines;
+    let mut safe = own.safe;
+    let more_mines = more.mines;
+    let more_safe = more.safe;
+    put_list(&more_mines, more.mine_count, &mut mines, own.mine_count);
+    put_list(&more_safe, more.safe_count, &mut safe, own.safe_count);
+    Lists {
+        safe,
+        safe_count: own.safe_count + more.safe_count,
+        mines,
+        mine_count: own.mine_count + more.mine_count,
     }
 }

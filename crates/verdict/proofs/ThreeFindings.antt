@@ -1,74 +1,108 @@
--- The three rules one after another, from their answers as structs. An answer that holds what a rule found at a position becomes, with its grade, the struct
--- that a pass is told (`graded-finds`); its counts are both 0 exactly where the rule found nothing (`found-cell-is`); so the first of the three answers with a
--- cell, or the third, is what the three rules find (`direct-finds`, `subtraction-finds`, `enumeration-finds`, together `first-finds`). What a rule lists are cells
--- of the frontier, so that it is on the board. Rests on the soundness of the rules. Assumes nothing.
+-- The three rules one after another, from the lists that the code has of each. A struct that holds the cells that a rule finds at a position, in whatever order
+-- (`HoldsFound`), becomes with its grade the struct that a pass is told (`graded-finds`); its counts are both 0 exactly where the rule found nothing
+-- (`found-cell-is`); so the first of the three with a cell, or the third, is what the three rules find (`direct-finds`, `later-finds`). The direct rule's cells
+-- are those of the sweeps over the position's equations, and subtraction's those of the sweeps over all that it leaves, where a layout fits, so that
+-- neither meets a contradiction. What a rule lists are cells of the frontier, so that it is on the board. Rests on the soundness of the rules. Assumes nothing.
 use mathlib.Core.Path.{_≡_, refl, sym, ap, _∙_}
 use mathlib.Core.Logic.{inl, inr}
-use mathlib.Core.Bool.{true, false, not}
+use mathlib.Core.Bool.{Bool, true, false, not}
 use mathlib.Core.List.{List}
 use Prim.Native.Nat.{ℕ, _*_, _≤_}
 use native.Mathlib.Omega.{arith}
+use lib.Dec.{ltb}
 use lib.ListN.{length}
-use borrow.Author.Tests.{not-true, not-false}
+use borrow.Author.Tests.{ltb-true, not-true, not-false}
+use Rattle.lists.specs.Lists.{all, nodup}
 use Rattle.lists.proofs.Tests.{Decided, decided}
+use Rattle.lists.proofs.All.{has-all, all-has}
 use Rattle.lists.proofs.Arrays.{length-pad, pad-take}
+use Rattle.lists.proofs.Rearranged.{nodup-below}
+use Rattle.lists.proofs.Among.{Among}
 use Rattle.grid.specs.Window.{neighbours, Board}
 use Rattle.grid.proofs.Neighbours.{neighbours-nodup}
 use Rattle.refusals.proofs.Accepted.{few-cells}
+use Rattle.fitting.specs.Layouts.{Fits}
 use Rattle.fitting.specs.Passes.{nothing, orElse}
 use Rattle.blocks.specs.Blocks.{Block}
-use Rattle.blocks.specs.BlockSets.{blockSet, blocksOf, Small, Whole}
+use Rattle.blocks.specs.BlockSets.{allCells, blockSet, blocksOf, Small, Whole}
+use Rattle.blocks.specs.Places.{Slots, equationsFrom}
 use Rattle.blocks.specs.declared.BlockSet.{BlockSet}
 use Rattle.blocks.proofs.Reading.{blocks-of-set}
 use Rattle.blocks.proofs.Behind.{set-whole}
 use Rattle.frontier.specs.Frontier.{frontier}
+use Rattle.frontier.specs.Equations.{plainEquations, equationArrays}
+use Rattle.frontier.specs.declared.equations.Equations.{Equations}
 use Rattle.frontier.proofs.Coverage.{frontier-small}
+use Rattle.frontier.proofs.EquationArrays.{arrays-slots, arrays-read, plain-small, plain-few}
 use Rattle.rules.specs.Found.{Found, ruleOf}
-use Rattle.rules.specs.Direct.{direct}
+use Rattle.rules.specs.Direct.{sureMines, sureSafe, direct}
 use Rattle.rules.specs.Minus.{subtraction}
 use Rattle.rules.specs.Marked.{Ready}
-use Rattle.rules.specs.Answers.{ruleAnswer}
-use Rattle.rules.specs.declared.answer.RuleAnswer.{RuleAnswer}
-use Rattle.rules.proofs.Soundness.{SoundAt, listed-few, direct-sound-at, subtraction-sound-at}
+use Rattle.rules.specs.Answers.{ruleAnswer, listsOf, listsIn, sweptLists, minusLists}
+use Rattle.rules.specs.declared.answer.Lists.{Lists}
+use Rattle.rules.proofs.DirectLaws.{sure-mines-once, sure-safe-once}
+use Rattle.rules.proofs.MinusLaws.{subtraction-contradiction}
+use Rattle.rules.proofs.Soundness.{SoundAt, listed-once, direct-sound-at, subtraction-sound-at}
 use Rattle.rules.proofs.Deductions.{listed-below}
 use Rattle.rules.proofs.FrontierReady.{frontier-ready}
+use Rattle.rules.proofs.SweptEquations.{swept-mines, swept-safe}
+use Rattle.rules.proofs.SweptLeft.{subtraction-mines-swept, subtraction-safe-swept}
 use Rattle.solutions.specs.Enumeration.{enumerated}
 use Rattle.solutions.specs.ThreeRules.{threeRules}
 use Rattle.solutions.proofs.BoardRules.{neighbours-few-everywhere}
 use Rattle.solutions.proofs.Completeness.{enumeration-sound-at}
-use Rattle.verdict.specs.Findings.{Finds, gradedFinding, foundCell, firstFinding}
-use Rattle.verdict.proofs.InPlaceAndEmpty.{empty-length}
+use Rattle.verdict.specs.Findings.{Finds, gradedFinding, foundCell, laterFinding}
+use Rattle.verdict.proofs.InPlaceAndEmpty.{SameNumbers, same-empty, empty-length}
 
--- ---- the first answer with a cell
+-- ---- subtraction, else enumeration
 
-module _ (x y z : RuleAnswer) (d : RuleAnswer) (first : d ≡ x) where
-  -- it is the first of the three
-  pub takes-first : foundCell d ≡ true → gradedFinding d 1 ≡ firstFinding x y z
-  unfolding firstFinding
-  takes-first h = rw (← first, h)
+module _ (y z m : Lists) (second : m ≡ y) where
+  -- the second found a cell
+  pub takes-second : foundCell m ≡ true → gradedFinding m 2 ≡ laterFinding y z
+  unfolding laterFinding
+  takes-second h = rw (← second, h)
 
-  -- or the second
-  module _ (none : foundCell d ≡ false) (m : RuleAnswer) (second : m ≡ y) where
-    pub takes-second : foundCell m ≡ true → gradedFinding m 2 ≡ firstFinding x y z
-    unfolding firstFinding
-    takes-second h = rw (← first, none, ← second, h)
-
-    -- or none is left but the third
-    pub takes-third : foundCell m ≡ false → (e : RuleAnswer) → e ≡ z → gradedFinding e 3 ≡ firstFinding x y z
-    unfolding firstFinding
-    takes-third h e third = rw (← first, none, ← second, h, third)
+  -- or none is left but the third
+  pub takes-third : foundCell m ≡ false → (e : Lists) → e ≡ z → gradedFinding e 3 ≡ laterFinding y z
+  unfolding laterFinding
+  takes-third h e third = rw (← second, h, third)
 
 -- ---- one rule
 
--- the answer that holds what a rule found at a position
-module _ (near : ℕ → List ℕ) (p : List ℕ) (rule : List Block → Found) (grade : ℕ) (r : RuleAnswer) (is : r ≡ ruleAnswer (rule (frontier near p))) where
-  abbrev found : Found
-  found = rule (frontier near p)
+-- the struct holds the cells that a rule finds, in whatever order, none twice
+pub record HoldsFound (r : Lists) (f : Found) : Type 0 where
+  pub safe : List ℕ
+  pub mines : List ℕ
+  pub is : r ≡ listsOf safe mines
+  pub same-safe : SameNumbers safe (f .safe)
+  pub same-mines : SameNumbers mines (f .mines)
+  pub safe-once : nodup safe ≡ true
+  pub mines-once : nodup mines ≡ true
 
+-- a list with the cells of one that stands among those of the frontier
+module _ (near : ℕ → List ℕ) (p l k : List ℕ) (same : SameNumbers l k) (among : Among k (allCells (frontier near p))) where
+  -- is on the board
+  same-below : all (λ c. ltb c (length p)) l ≡ true
+  same-below = has-all (λ c. ltb c (length p)) l (λ c h. all-has (λ x. ltb x (length p)) k (listed-below near p k among) c (sym (same c) ∙ h))
+
+  -- and not longer than that, where no cell stands twice
+  same-few : nodup l ≡ true → length l ≤ length p
+  same-few once = nodup-below (length p) l once (λ c h. ltb-true c (length p) (all-has (λ x. ltb x (length p)) l same-below c h))
+
+-- the struct that holds what a rule finds at a position
+module _ (near : ℕ → List ℕ) (p : List ℕ) (rule : List Block → Found) (grade : ℕ) (r : Lists) (held : HoldsFound r (rule (frontier near p))) where
   -- says whether the rule found a cell
-  pub found-cell-is : foundCell r ≡ not (nothing (ruleOf near rule grade p))
-  unfolding ruleAnswer
-  found-cell-is = rw (is, empty-length (found .safe), empty-length (found .mines))
+  found-cell-is : foundCell r ≡ not (nothing (ruleOf near rule grade p))
+  unfolding listsOf
+  found-cell-is =
+      let found = rule (frontier near p) in
+      rw (
+        held .is,
+        sym (same-empty (held .safe) (found .safe) (held .same-safe)),
+        sym (same-empty (held .mines) (found .mines) (held .same-mines)),
+        empty-length (held .safe),
+        empty-length (held .mines),
+      )
 
   pub found-none : foundCell r ≡ false → nothing (ruleOf near rule grade p) ≡ true
   found-none h = not-false (nothing (ruleOf near rule grade p)) (sym found-cell-is ∙ h)
@@ -78,20 +112,23 @@ module _ (near : ℕ → List ℕ) (p : List ℕ) (rule : List Block → Found) 
 
   -- and is what a pass is told, where the rule is sound and there are at most 1024 cells
   pub graded-finds : SoundAt near p (rule (frontier near p)) → (n : ℕ) → length p ≡ n → n ≤ 1024 → Finds n (ruleOf near rule grade p) (gradedFinding r grade)
-  unfolding ruleAnswer
+  unfolding listsOf
   graded-finds sound n size few =
-      let safe : length (found .safe) ≤ 1024 = omega (arith, listed-few near p (found .safe) (sound .safe-among)) in
-      let mines : length (found .mines) ≤ 1024 = omega (arith, listed-few near p (found .mines) (sound .mines-among)) in
-      rw is
+      let found = rule (frontier near p) in
+      let safe : length (held .safe) ≤ 1024 =
+      omega (arith, same-few near p (held .safe) (found .safe) (held .same-safe) (sound .safe-among) (held .safe-once)) in
+      let mines : length (held .mines) ≤ 1024 =
+      omega (arith, same-few near p (held .mines) (found .mines) (held .same-mines) (sound .mines-among) (held .mines-once)) in
+      rw (held .is)
       (record {
-        safe-long = length-pad 1024 0 (found .safe) safe;
-        mines-long = length-pad 1024 0 (found .mines) mines;
+        safe-long = length-pad 1024 0 (held .safe) safe;
+        mines-long = length-pad 1024 0 (held .mines) mines;
         few-safe = safe;
         few-mines = mines;
-        safe-below = rw (pad-take 1024 0 (found .safe), ← size) (listed-below near p (found .safe) (sound .safe-among));
-        mines-below = rw (pad-take 1024 0 (found .mines), ← size) (listed-below near p (found .mines) (sound .mines-among));
-        same-safe = λ c. rw (pad-take 1024 0 (found .safe));
-        same-mines = λ c. rw (pad-take 1024 0 (found .mines));
+        safe-below = rw (pad-take 1024 0 (held .safe), ← size) (same-below near p (held .safe) (found .safe) (held .same-safe) (sound .safe-among));
+        mines-below = rw (pad-take 1024 0 (held .mines), ← size) (same-below near p (held .mines) (found .mines) (held .same-mines) (sound .mines-among));
+        same-safe = λ c. rw (pad-take 1024 0 (held .safe)) (held .same-safe c);
+        same-mines = λ c. rw (pad-take 1024 0 (held .mines)) (held .same-mines c);
         same-grade = refl;
       })
 
@@ -104,47 +141,106 @@ module _ (rows columns : ℕ) (p : List ℕ) (board : Board p rows columns) wher
   few : rows * columns ≤ 1024
   few = few-cells (board .sized)
 
-  -- a sound rule's answer, on this board
-  board-finds : (rule : List Block → Found) (grade : ℕ) (r : RuleAnswer) → r ≡ ruleAnswer (rule (frontier (neighbours rows columns) p))
+  direct-sound : SoundAt (neighbours rows columns) p (direct (frontier (neighbours rows columns) p))
+  direct-sound = direct-sound-at near (neighbours-nodup rows columns) (neighbours-few-everywhere rows columns) p
+
+  subtraction-sound : SoundAt (neighbours rows columns) p (subtraction (frontier (neighbours rows columns) p))
+  subtraction-sound = subtraction-sound-at near (neighbours-nodup rows columns) (neighbours-few-everywhere rows columns) p
+
+  enumeration-sound : SoundAt (neighbours rows columns) p (enumerated (frontier (neighbours rows columns) p))
+  enumeration-sound = enumeration-sound-at near (neighbours-nodup rows columns) (neighbours-few-everywhere rows columns) p
+
+  -- a sound rule's lists, on this board
+  board-finds : (rule : List Block → Found) (grade : ℕ) (r : Lists) → HoldsFound r (rule (frontier (neighbours rows columns) p))
       → SoundAt (neighbours rows columns) p (rule (frontier (neighbours rows columns) p))
       → Finds (rows * columns) (ruleOf (neighbours rows columns) rule grade p) (gradedFinding r grade)
-  board-finds rule grade r is sound = graded-finds near p rule grade r is sound (rows * columns) (board .whole) few
+  board-finds rule grade r held sound = graded-finds near p rule grade r held sound (rows * columns) (board .whole) few
 
-  -- direct found a cell
-  module _ (d : RuleAnswer) (direct-is : d ≡ ruleAnswer (direct (frontier (neighbours rows columns) p))) where
-    pub direct-finds : foundCell d ≡ true → Finds (rows * columns) (threeRules (neighbours rows columns) p) (gradedFinding d 1)
-    unfolding orElse
-    direct-finds h =
-        rw (found-some near p direct 1 d direct-is h)
-        (board-finds direct 1 d direct-is (direct-sound-at near (neighbours-nodup rows columns) (neighbours-few-everywhere rows columns) p))
+  -- a layout fits
+  module _ (layout : List Bool) (fit : Fits (neighbours rows columns) p layout) where
+    -- the sweeps over the equations hold what the direct rule finds
+    direct-held : (d : Lists) → d ≡ sweptLists (plainEquations (neighbours rows columns) p) → HoldsFound d (direct (frontier (neighbours rows columns) p))
+    direct-held d is =
+        let none = direct-sound .no-contradiction layout fit in
+        record {
+          safe = sureSafe (plainEquations near p);
+          mines = sureMines (plainEquations near p);
+          is = is;
+          same-safe = swept-safe near p (neighbours-nodup rows columns) none;
+          same-mines = swept-mines near p (neighbours-nodup rows columns) none;
+          safe-once = sure-safe-once (plainEquations near p);
+          mines-once = sure-mines-once (plainEquations near p);
+        }
 
-    -- it found nothing, and subtraction found a cell
-    module _ (none : foundCell d ≡ false) (m : RuleAnswer) (subtraction-is : m ≡ ruleAnswer (subtraction (frontier (neighbours rows columns) p))) where
-      pub subtraction-finds : foundCell m ≡ true → Finds (rows * columns) (threeRules (neighbours rows columns) p) (gradedFinding m 2)
+    -- subtraction's lists are what the rule finds
+    subtraction-held : (m : Lists) → m ≡ minusLists (frontier (neighbours rows columns) p) → HoldsFound m (subtraction (frontier (neighbours rows columns) p))
+    subtraction-held m is =
+        let bs = frontier near p in
+        let none = sym (subtraction-contradiction bs) ∙ subtraction-sound .no-contradiction layout fit in
+        let ready = frontier-ready near p in
+        record {
+          safe = subtraction bs .safe;
+          mines = subtraction bs .mines;
+          is = rw (subtraction-safe-swept bs ready none, subtraction-mines-swept bs ready none) is;
+          same-safe = λ c. refl;
+          same-mines = λ c. refl;
+          safe-once = listed-once near p (subtraction bs .safe) (subtraction-sound .safe-among);
+          mines-once = listed-once near p (subtraction bs .mines) (subtraction-sound .mines-among);
+        }
+
+    -- and so are enumeration's
+    enumeration-held : (e : Lists) → e ≡ listsIn (ruleAnswer (enumerated (frontier (neighbours rows columns) p)))
+        → HoldsFound e (enumerated (frontier (neighbours rows columns) p))
+    unfolding ruleAnswer listsOf
+    enumeration-held e is =
+        let bs = frontier near p in
+        record {
+          safe = enumerated bs .safe;
+          mines = enumerated bs .mines;
+          is = is;
+          same-safe = λ c. refl;
+          same-mines = λ c. refl;
+          safe-once = listed-once near p (enumerated bs .safe) (enumeration-sound .safe-among);
+          mines-once = listed-once near p (enumerated bs .mines) (enumeration-sound .mines-among);
+        }
+
+    module _ (d : Lists) (direct-is : d ≡ sweptLists (plainEquations (neighbours rows columns) p)) where
+      -- direct found a cell
+      pub direct-finds : foundCell d ≡ true → Finds (rows * columns) (threeRules (neighbours rows columns) p) (gradedFinding d 1)
       unfolding orElse
-      subtraction-finds h =
-          rw (found-none near p direct 1 d direct-is none, found-some near p subtraction 2 m subtraction-is h)
-          (board-finds subtraction 2 m subtraction-is (subtraction-sound-at near (neighbours-nodup rows columns) (neighbours-few-everywhere rows columns) p))
+      direct-finds h = rw (found-some near p direct 1 d (direct-held d direct-is) h) (board-finds direct 1 d (direct-held d direct-is) direct-sound)
 
-      -- neither did
-      pub enumeration-finds : foundCell m ≡ false → (e : RuleAnswer) → e ≡ ruleAnswer (enumerated (frontier (neighbours rows columns) p))
-          → Finds (rows * columns) (threeRules (neighbours rows columns) p) (gradedFinding e 3)
-      unfolding orElse
-      enumeration-finds h e enumeration-is =
-          rw (found-none near p direct 1 d direct-is none, found-none near p subtraction 2 m subtraction-is h)
-          (board-finds enumerated 3 e enumeration-is (enumeration-sound-at near (neighbours-nodup rows columns) (neighbours-few-everywhere rows columns) p))
+      -- it found nothing: subtraction's lists where it found a cell, else enumeration's
+      pub later-finds : foundCell d ≡ false → (m e : Lists) → m ≡ minusLists (frontier (neighbours rows columns) p)
+          → e ≡ listsIn (ruleAnswer (enumerated (frontier (neighbours rows columns) p)))
+          → Finds (rows * columns) (threeRules (neighbours rows columns) p) (laterFinding m e)
+      unfolding orElse laterFinding
+      later-finds none m e subtraction-is enumeration-is = go (decided (foundCell m))
+        where
+          go : Decided (foundCell m) → Finds (rows * columns) (threeRules (neighbours rows columns) p) (laterFinding m e)
+          go (inl x) = rw (
+            x,
+            found-none near p direct 1 d (direct-held d direct-is) none,
+            found-some near p subtraction 2 m (subtraction-held m subtraction-is) x,
+          ) (board-finds subtraction 2 m (subtraction-held m subtraction-is) subtraction-sound)
+          go (inr x) = rw (
+            x,
+            found-none near p direct 1 d (direct-held d direct-is) none,
+            found-none near p subtraction 2 m (subtraction-held m subtraction-is) x,
+          ) (board-finds enumerated 3 e (enumeration-held e enumeration-is) enumeration-sound)
 
-  -- the first of the three answers with a cell, or the third
-  pub first-finds : (d m e : RuleAnswer) → d ≡ ruleAnswer (direct (frontier (neighbours rows columns) p))
-      → m ≡ ruleAnswer (subtraction (frontier (neighbours rows columns) p)) → e ≡ ruleAnswer (enumerated (frontier (neighbours rows columns) p))
-      → Finds (rows * columns) (threeRules (neighbours rows columns) p) (firstFinding d m e)
-  unfolding firstFinding
-  first-finds d m e direct-is subtraction-is enumeration-is = go (decided (foundCell d)) (decided (foundCell m))
-    where
-      go : Decided (foundCell d) → Decided (foundCell m) → Finds (rows * columns) (threeRules (neighbours rows columns) p) (firstFinding d m e)
-      go (inl x) y = rw x (direct-finds d direct-is x)
-      go (inr x) (inl y) = rw (x, y) (subtraction-finds d direct-is x m subtraction-is y)
-      go (inr x) (inr y) = rw (x, y) (enumeration-finds d direct-is x m subtraction-is y e enumeration-is)
+  -- ---- the equations as the code reads them
+
+  module _ (equations : Equations) (is : equations ≡ equationArrays (plainEquations (neighbours rows columns) p)) where
+    -- are fit for the sweeps
+    pub equations-fit : Slots (equations .slots) (equations .len)
+    unfolding equationArrays
+    equations-fit = rw is (arrays-slots (plainEquations near p) (plain-small rows columns p board) (plain-few rows columns p board))
+
+    -- and read as the position's
+    pub equations-read : equationsFrom (equations .slots) (equations .rests) 0 (equations .len) ≡ plainEquations (neighbours rows columns) p
+    unfolding equationArrays
+    equations-read = rw is (arrays-read (plainEquations near p) (plain-small rows columns p board) (plain-few rows columns p board))
 
   -- ---- the frontier as the code reads it
 

@@ -7,7 +7,7 @@ use lib.Dec.{ltb, eqb}
 use lib.ListN.{length, take}
 use Rattle.lists.specs.Lists.{all, has}
 use Rattle.fitting.specs.Passes.{Found, Ending}
-use Rattle.rules.specs.declared.answer.RuleAnswer.{RuleAnswer}
+use Rattle.rules.specs.declared.answer.Lists.{Lists}
 use Rattle.verdict.specs.declared.finding.Finding.{Finding}
 use Rattle.verdict.specs.declared.passes.Ending.{Ending as PassesEnd}
 
@@ -23,20 +23,20 @@ pub record Finds (n : ℕ) (f : Found) (r : Finding) : Type 0 where
   pub same-mines : (c : ℕ) → has (take (r .«mine_count») (r .mines)) c ≡ has (f .mines) c
   pub same-grade : r .grade ≡ f .grade
 
--- ---- from a rule's answer to the struct
+-- ---- from a rule's lists to the struct
 
 -- a rule's lists with its grade
-abbrev pub gradedFinding : RuleAnswer → ℕ → Finding
+abbrev pub gradedFinding : Lists → ℕ → Finding
 gradedFinding found grade =
     record { safe = found .safe; «safe_count» = found .«safe_count»; mines = found .mines; «mine_count» = found .«mine_count»; grade = grade }
 
 -- a rule found a cell
-abbrev pub foundCell : RuleAnswer → Bool
+abbrev pub foundCell : Lists → Bool
 foundCell found = not (eqb (found .«safe_count») 0 && eqb (found .«mine_count») 0)
 
--- the first of three answers with a cell, or the last, with its grade
-unfoldable pub firstFinding : RuleAnswer → RuleAnswer → RuleAnswer → Finding
-firstFinding first second third = cond (foundCell first) (gradedFinding first 1) (cond (foundCell second) (gradedFinding second 2) (gradedFinding third 3))
+-- the second rule's lists where it found a cell, else the third's
+unfoldable pub laterFinding : Lists → Lists → Finding
+laterFinding second third = cond (foundCell second) (gradedFinding second 2) (gradedFinding third 3)
 
 -- ---- the end of the passes
 

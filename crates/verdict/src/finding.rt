@@ -1,24 +1,26 @@
 // What one pass finds at a position: the direct rule's cells, else those of subtraction, else those of enumeration, with the grade of the rule that found them.
 use blocks::BlockSet;
+use frontier::equations::read_equations;
 use frontier::read_blocks;
-use rules::answer::RuleAnswer;
-use rules::direct::direct_rule;
-use rules::minus::minus_rule;
+use rules::answer::Lists;
+use rules::answer::lists_of;
+use rules::direct::direct_cells;
+use rules::minus::minus_cells;
 use solutions::enumerate::enumerate_rule;
 ghost use mathlib.Core.Path.{_≡_};
-ghost use mathlib.Core.List.{List·Memᴰ};
+ghost use mathlib.Core.Bool.{Bool};
+ghost use mathlib.Core.List.{List, List·Memᴰ};
 ghost use Rattle.grid.specs.Window.{neighbours, Board};
 ghost use Prim.Native.Nat.{_*_};
+ghost use Rattle.fitting.specs.Layouts.{Fits};
 ghost use Rattle.blocks.specs.Blocks.{Block};
 ghost use Rattle.blocks.specs.BlockSets.{blocksOf, Whole};
 ghost use Rattle.rules.specs.Marked.{Ready};
-ghost use Rattle.rules.specs.Direct.{direct};
-ghost use Rattle.rules.specs.Minus.{subtraction};
-ghost use Rattle.rules.specs.Answers.{ruleAnswer};
+ghost use Rattle.rules.specs.Answers.{ruleAnswer, listsIn, minusLists};
 ghost use Rattle.solutions.specs.Enumeration.{enumerated};
 ghost use Rattle.solutions.specs.Grouping.{Combinable};
 ghost use Rattle.solutions.specs.ThreeRules.{threeRules};
-ghost use Rattle.verdict.specs.Findings.{Finds, gradedFinding, foundCell, firstFinding};
+ghost use Rattle.verdict.specs.Findings.{Finds, gradedFinding, foundCell, laterFinding};
 
 // Two lists of cells with their counts, and a grade.
 pub struct Finding {
@@ -30,7 +32,7 @@ pub struct Finding {
 }
 
 // A rule's lists with its grade.
-fn graded(found: RuleAnswer, grade: usize) -> Finding
+fn graded(found: Lists, grade: usize) -> Finding
     ensures { λ r. ⌜ r ≡ gradedFinding found grade ⌝ }
 {
     let safe = found.safe;
@@ -45,7 +47,7 @@ fn graded(found: RuleAnswer, grade: usize) -> Finding
 }
 
 // Did a rule find a cell?
-fn found_cell(found: RuleAnswer) -> bool
+fn found_cell(found: Lists) -> bool
     ensures { λ r. ⌜ r ≡ foundCell found ⌝ }
 {
     if found.safe_count == 0 {
@@ -55,28 +57,30 @@ fn found_cell(found: RuleAnswer) -> bool
     }
 }
 
-// The three rules on blocks, weakest first.
+// Subtraction on blocks, then enumeration.
 fn find_in_blocks(set: BlockSet) -> Finding
     requires { ⌜ Whole set ⌝ }
     requires { ⌜ Ready (blocksOf set) ⌝ }
     requires { ⌜ ((b : Block) → List·Memᴰ b (blocksOf set) → Combinable b) ⌝ }
-    ensures { λ r. ⌜ r ≡ firstFinding (ruleAnswer (direct (blocksOf set))) (ruleAnswer (subtraction (blocksOf set))) (ruleAnswer (enumerated (blocksOf set))) ⌝ }
+    ensures { λ r. ⌜ r ≡ laterFinding (minusLists (blocksOf set)) (listsIn (ruleAnswer (enumerated (blocksOf set)))) ⌝ }
 {
-    let direct = direct_rule(set);
-    if found_cell(direct) {
-        return graded(direct, 1);
-    }
-    let minus = minus_rule(set);
+    let minus = minus_cells(set);
     if found_cell(minus) {
         return graded(minus, 2);
     }
-    graded(enumerate_rule(set), 3)
+    graded(lists_of(enumerate_rule(set)), 3)
 }
 
-// What a pass finds.
+// What a pass finds. The direct rule needs the equations alone, and only where it finds nothing are the blocks read. A layout fits, so no rule
+// meets a contradiction, and none is asked for.
 pub fn find_cells(rows: usize, columns: usize, position: &[u8]) -> Finding
     requires { ⌜ Board (now position) rows columns ⌝ }
+    requires { ⌜ ((m : List Bool) × Fits (neighbours rows columns) (now position) m) ⌝ }
     ensures { λ r. ⌜ Finds (rows * columns) (threeRules (neighbours rows columns) (now (position .entry))) r ⌝ }
 {
+    let direct = direct_cells(read_equations(rows, columns, position));
+    if found_cell(direct) {
+        return graded(direct, 1);
+    }
     find_in_blocks(read_blocks(rows, columns, position))
 }

@@ -3,16 +3,13 @@
 -- has. Rests on the laws of all blocks at once. Assumes nothing.
 use mathlib.Core.Path.{_≡_, sym, ap, _∙_}
 use mathlib.Core.List.{List, map}
-use lib.ListN.{take}
 use borrow.Author.Needs.{needs}
-use Rattle.blocks.specs.Blocks.{BlockEquation, Block}
+use Rattle.blocks.specs.Blocks.{Block}
 use Rattle.blocks.specs.BlockSets.{allEquations, blockSet, blocksOf}
-use Rattle.blocks.specs.Places.{Marks, Slots, equationsFrom}
 use Rattle.chunks.specs.Chunks.{chunkMatrixes}
-use Rattle.rules.specs.Direct.{sureMines, sureSafe, directLeft, negative}
+use Rattle.rules.specs.Direct.{directLeft, negative}
+use Rattle.rules.specs.Marked.{Sweeps}
 use Rattle.blocks.proofs.Reading.{blocks-of-set}
-use Rattle.blocks.proofs.MarkLaws.{marks-none}
-use Rattle.rules.proofs.ListedCells.{listed-none}
 use Rattle.rules.proofs.WholeSets.{few-blocks, few-equations, equations-of-all, slots-of-all, negative-of-all}
 use Rattle.rules.proofs.LeftByMarks.{left-of-all}
 use Rattle.rules.proofs.SmallerBlocks.{direct-fits}
@@ -23,85 +20,58 @@ use Rattle.rules.proofs.direct.direct_rule.Tie as tie
 begin-at-requires : tie.Need-begin-at-requires
 begin-at-requires c κs = let s = c .before .before .before .before in few-blocks (s .args .t1) (s .pre .0)
 
--- ---- the equations of all blocks
+-- ---- the two sweeps over the equations of all blocks
 
 -- from where the end of the equations was read back to the beginning
 abbrev start : tie.After-begin-at → tie.Start
 start c = c .before .before .before .before .before
 
+sweep-requires : tie.Need-sweep-requires
+sweep-requires c κs = let read = c .before .before in slots-of-all (start read .args .t1) (start read .pre .0) _ (read .begin-at .ensures)
+
+-- from after the sweeps back to the beginning
+abbrev begun : tie.After-sweep → tie.Start
+begun c = start (c .before .before .before)
+
 -- the blocks that the set holds
-abbrev blocks : tie.After-begin-at → List Block
-blocks c = blocksOf (start c .args .t1)
+abbrev blocks : tie.After-sweep → List Block
+blocks c = blocksOf (begun c .args .t1)
 
--- the equations before the place that was read
-abbrev equations : tie.After-begin-at → List BlockEquation
-equations c = equationsFrom (start c .args .t1 .slots) (start c .args .t1 .rests) 0 (c .begin-at .result)
-
-slots-read : (c : tie.After-begin-at) → Slots (start c .args .t1 .slots) (c .begin-at .result)
-slots-read c = slots-of-all (start c .args .t1) (start c .pre .0) _ (c .begin-at .ensures)
-
-equations-read : (c : tie.After-begin-at) → equations c ≡ allEquations (blocks c)
-equations-read c = equations-of-all (start c .args .t1) (start c .pre .0) _ (c .begin-at .ensures)
-
-sweep-mines-requires : tie.Need-sweep-mines-requires
-sweep-mines-requires c κs = (slots-read (c .before .before .before .before .before), (marks-none 1024, listed-none))
-
--- ---- the two sweeps
-
--- from after the first sweep back to where that end was read
-abbrev read : tie.After-sweep-mines → tie.After-begin-at
-read c = c .before .before .before .before .before .before
-
-mines-listed : (c : tie.After-sweep-mines) → take (c .sweep-mines .result) (c .sweep-mines .last .1 .1 .1 .1 .1 .0) ≡ sureMines (allEquations (blocks (read c)))
-mines-listed c = c .sweep-mines .ensures .1 ∙ ap sureMines (equations-read (read c))
-
-mines-marked : (c : tie.After-sweep-mines) → Marks (c .sweep-mines .last .1 .1 .1 .1 .0) (sureMines (allEquations (blocks (read c))))
-mines-marked c = rw (mines-listed c) at (c .sweep-mines .ensures .0 .shown)
-
-sweep-safe-requires : tie.Need-sweep-safe-requires
-sweep-safe-requires c κs =
-    let m = c .before .before .before .before .before in
-    (slots-read (read m), (rw (m .sweep-mines .ensures .1) at (m .sweep-mines .ensures .0 .shown), listed-none))
-
--- from after the second sweep back to the first
-abbrev first : tie.After-sweep-safe → tie.After-sweep-mines
-first c = c .before .before .before .before .before .before
-
-safe-listed : (c : tie.After-sweep-safe) → take (c .sweep-safe .result) (c .sweep-safe .last .1 .1 .1 .1 .1 .0) ≡ sureSafe (allEquations (blocks (read (first c))))
-safe-listed c = c .sweep-safe .ensures .1 ∙ ap sureSafe (equations-read (read (first c)))
-
-safe-marked : (c : tie.After-sweep-safe) → Marks (c .sweep-safe .last .1 .1 .1 .1 .0) (sureSafe (allEquations (blocks (read (first c)))))
-safe-marked c = rw (safe-listed c) at (c .sweep-safe .ensures .0 .shown)
+-- the lists are those of the equations of all blocks
+swept : (c : tie.After-sweep) → Sweeps (allEquations (blocks c)) (c .sweep .result)
+swept c = rw (equations-of-all (begun c .args .t1) (begun c .pre .0) _ (c .before .before .before .begin-at .ensures)) at (c .sweep .ensures)
 
 marked-in-one-requires : tie.Need-marked-in-one-requires
 marked-in-one-requires c κs = search needs
 
 left-blocks-requires : tie.Need-left-blocks-requires
-left-blocks-requires c κs = start (read (first (c .before .before .before .before .before))) .pre .0
+left-blocks-requires c κs = begun (c .before .before .before .before .before .before .before) .pre .0
 
 -- ---- what is left
 
--- from after what is left was made back to the second sweep
-abbrev second : tie.After-left-blocks → tie.After-sweep-safe
-second c = c .before .before .before .before .before .before
+-- from after what is left was made back to the sweeps
+abbrev found : tie.After-left-blocks → tie.After-sweep
+found c = c .before .before .before .before .before .before .before .before
 
 -- the blocks of which it was made
 abbrev all-blocks : tie.After-left-blocks → List Block
-all-blocks c = blocks (read (first (second c)))
+all-blocks c = blocks (found c)
 
 -- it is what the direct rule leaves of the blocks
 left-made : (c : tie.After-left-blocks) → c .left-blocks .result ≡ blockSet (map directLeft (all-blocks c))
 left-made c =
-    let s = start (read (first (second c))) in
+    let s = begun (found c) in
+    let w = swept (found c) in
+    let r = found c .sweep .result in
     c .left-blocks .ensures .0
     ∙ ap blockSet
-    (left-of-all (all-blocks c) (s .pre .1) (s .pre .0 .fits .on-board) _ (second c .sweep-safe .last .1 .1 .1 .1 .0) _
-    (mines-marked (first (second c))) (safe-marked (second c)) (c .before .before .before .marked-in-one .ensures))
+    (left-of-all (all-blocks c) (s .pre .1) (s .pre .0 .fits .on-board) (r .«mine_marks») (r .«safe_marks») _
+    (rw (w .mines-are) at (w .mines-listed .shown)) (rw (w .safe-are) at (w .safe-listed .shown)) (c .before .before .before .marked-in-one .ensures))
 
 -- and reads as that
 left-read : (c : tie.After-left-blocks) → blocksOf (c .left-blocks .result) ≡ map directLeft (all-blocks c)
 left-read c =
-    let s = start (read (first (second c))) in
+    let s = begun (found c) in
     ap blocksOf (left-made c) ∙ blocks-of-set (map directLeft (all-blocks c)) (direct-fits (all-blocks c) (s .pre .0 .fits))
 
 begin-at-requires-2 : tie.Need-begin-at-requires-2
@@ -131,15 +101,14 @@ returns c =
     )
 
 chunk-matrixes-requires : tie.Need-chunk-matrixes-requires
-chunk-matrixes-requires c κs = made (c .before) .left-blocks .ensures .1
+chunk-matrixes-requires c κs = made (c .before .before .before) .left-blocks .ensures .1
 
 returns-2 : tie.Need-returns-2
 returns-2 c =
-    let asked = c .before .before in
-    let s = second (made asked) in
-    let m = first s in (
-      answer-found (all-blocks (made asked)) (start (read m) .pre .1) (sym (negative-asked asked) ∙ c .before .if1 .left)
-          _ _ _ (s .sweep-safe .ensures .0) (safe-listed s) _ _ _ (m .sweep-mines .ensures .0) (mines-listed m) _
+    let else = c .before .before .before in
+    let asked = else .before in
+    let f = found (made asked) in (
+      answer-found (all-blocks (made asked)) (begun f .pre .1) (sym (negative-asked asked) ∙ else .if1 .left) (f .sweep .result) (swept f) _
           (c .chunk-matrixes .ensures .0 ∙ ap (λ (bs : List Block). blockSet (chunkMatrixes bs)) (left-read (made asked))),
       c .chunk-matrixes .ensures .1,
     )
@@ -149,8 +118,7 @@ direct-rule-spec =
     tie.close
     (tie.spec
     begin-at-requires
-    sweep-mines-requires
-    sweep-safe-requires
+    sweep-requires
     marked-in-one-requires
     left-blocks-requires
     begin-at-requires-2

@@ -1,37 +1,78 @@
--- `finding::find_cells` meets its contract: the frontier is read, which is fit for the rules, and the first answer with a cell is what the three rules find.
--- Rests on ThreeFindings and on the contracts of the calls. Assumes nothing.
-use mathlib.Core.Path.{ap}
+-- `finding::find_cells` meets its contract: the equations are read, which are fit for the sweeps; where these find nothing the frontier is read, which is fit
+-- for the other rules; and the first lists with a cell are what the three rules find. Rests on ThreeFindings and on the contracts of the calls. Assumes nothing.
+use mathlib.Core.Path.{_≡_, sym, ap, _∙_}
 use mathlib.Core.List.{List}
 use borrow.Author.Needs.{needs}
+use Rattle.grid.specs.Window.{neighbours}
 use Rattle.blocks.specs.Blocks.{Block}
-use Rattle.rules.specs.Answers.{ruleAnswer}
-use Rattle.rules.specs.Direct.{direct}
-use Rattle.rules.specs.Minus.{subtraction}
+use Rattle.frontier.specs.Equations.{plainEquations}
+use Rattle.rules.specs.Answers.{ruleAnswer, listsIn, sweptLists, minusLists}
 use Rattle.solutions.specs.Enumeration.{enumerated}
 use Rattle.solutions.proofs.FrontierBlocks.{frontier-combinable}
-use Rattle.verdict.proofs.ThreeFindings.{first-finds, read-as, read-whole, read-ready}
+use Rattle.verdict.proofs.ThreeFindings.{direct-finds, later-finds, equations-fit, equations-read, read-as, read-whole, read-ready}
 use Rattle.verdict.proofs.finding.find_cells.Statement.{statement}
 use Rattle.verdict.proofs.finding.find_cells.Tie as tie
 
-read-blocks-requires : tie.Need-read-blocks-requires
-read-blocks-requires c κs = search needs
+read-equations-requires : tie.Need-read-equations-requires
+read-equations-requires c κs = c .before .pre .0
 
-find-in-blocks-requires : tie.Need-find-in-blocks-requires
-find-in-blocks-requires c κs =
-    let s = c .before .before in
-    let is = read-as _ _ _ (s .pre) _ (c .read-blocks .ensures) in (
-      read-whole _ _ _ (s .pre) _ (c .read-blocks .ensures),
-      (read-ready _ _ _ (s .pre) _ (c .read-blocks .ensures), rw is (frontier-combinable _ _ _ (s .pre))),
-    )
+direct-cells-requires : tie.Need-direct-cells-requires
+direct-cells-requires c κs = equations-fit _ _ _ (c .before .before .pre .0) _ (c .read-equations .ensures)
+
+-- from after the sweeps back to the beginning
+abbrev start : tie.After-direct-cells → tie.Start
+start c = c .before .before .before
+
+-- the sweeps were over the position's equations
+swept : (c : tie.After-direct-cells)
+    → (let a = start c .args in c .direct-cells .result ≡ sweptLists (plainEquations (neighbours (a .rows) (a .columns)) (a .position .now)))
+swept c = c .direct-cells .ensures ∙ ap sweptLists (equations-read _ _ _ (start c .pre .0) _ (c .before .read-equations .ensures))
+
+found-cell-requires : tie.Need-found-cell-requires
+found-cell-requires c κs = search needs
+
+graded-requires : tie.Need-graded-requires
+graded-requires c κs = search needs
 
 returns : tie.Need-returns
 returns c =
+    let asked = c .before .before in
+    let d = asked .before in
+    let s = start d in
+    rw (c .graded .ensures)
+    (direct-finds _ _ _ (s .pre .0) (s .pre .1 .0) (s .pre .1 .1) _ (swept d) (sym (asked .found-cell .ensures) ∙ c .before .if1 .taken))
+
+read-blocks-requires : tie.Need-read-blocks-requires
+read-blocks-requires c κs = start (c .before .before) .pre .0
+
+find-in-blocks-requires : tie.Need-find-in-blocks-requires
+find-in-blocks-requires c κs =
+    let s = start (c .before .before .before) in
+    let is = read-as _ _ _ (s .pre .0) _ (c .read-blocks .ensures) in (
+      read-whole _ _ _ (s .pre .0) _ (c .read-blocks .ensures),
+      (read-ready _ _ _ (s .pre .0) _ (c .read-blocks .ensures), rw is (frontier-combinable _ _ _ (s .pre .0))),
+    )
+
+returns-2 : tie.Need-returns-2
+returns-2 c =
     let read = c .before in
-    let s = read .before .before in
-    let is = read-as _ _ _ (s .pre) _ (read .read-blocks .ensures) in
+    let asked = read .before .before in
+    let d = asked .before in
+    let s = start d in
+    let is = read-as _ _ _ (s .pre .0) _ (read .read-blocks .ensures) in
     rw (c .find-in-blocks .ensures)
-    (first-finds _ _ _ (s .pre) _ _ _
-    (ap (λ (bs : List Block). ruleAnswer (direct bs)) is) (ap (λ (bs : List Block). ruleAnswer (subtraction bs)) is) (ap (λ (bs : List Block). ruleAnswer (enumerated bs)) is))
+    (later-finds _ _ _ (s .pre .0) (s .pre .1 .0) (s .pre .1 .1) _ (swept d) (sym (asked .found-cell .ensures) ∙ read .before .if1 .left) _ _
+    (ap minusLists is) (ap (λ (bs : List Block). listsIn (ruleAnswer (enumerated bs))) is))
 
 pub find-cells-spec : {M : Type 1} → statement M
-find-cells-spec = tie.close (tie.spec read-blocks-requires find-in-blocks-requires returns)
+find-cells-spec =
+    tie.close
+    (tie.spec
+    read-equations-requires
+    direct-cells-requires
+    found-cell-requires
+    graded-requires
+    returns
+    read-blocks-requires
+    find-in-blocks-requires
+    returns-2)

@@ -6,6 +6,7 @@ use native.Mathlib.Omega.{arith}
 use borrow.Author.Needs.{needs}
 use lib.ListN.{length, take}
 use Rattle.grid.specs.Window.{neighbours}
+use Rattle.fitting.specs.Boards.{own}
 use Rattle.solutions.specs.ThreeRules.{threeRules}
 use Rattle.verdict.proofs.Underway.{underway-first, ends-open, ends-last}
 use Rattle.verdict.proofs.PassesOnBoard.{OnBoard, same-cells, position-board, marked-board, few-rounds, found-nothing, found-cells}
@@ -43,7 +44,8 @@ returns c =
 find-cells-requires : tie.Need-find-cells-requires Inv-loop μ-loop
 find-cells-requires c κs =
     let s = c .before .before .before .before .before .before .before .before in
-    position-board (s .pre .0 .0) (c .before .before .before .before .before .loop .inv)
+    let l = c .before .before .before .before .before .loop in
+    (position-board (s .pre .0 .0) (l .inv), (own (s .args .board .now), l .inv .own-fits))
 
 add-if2 : tie.Need-add-if2 Inv-loop μ-loop
 add-if2 c = search needs
