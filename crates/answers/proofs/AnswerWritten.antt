@@ -11,14 +11,14 @@ use Rattle.refusals.specs.declared.Tested.{Tested}
 use Rattle.refusals.specs.declared.Tested.the-variants.{Accepted}
 use Rattle.blocks.specs.BlockSets.{blocksOf}
 use Rattle.frontier.specs.declared.FrontierAnswer.{FrontierAnswer}
-use Rattle.rules.specs.Answers.{Seen}
+use Rattle.deductions.specs.Answers.{Seen}
 use Rattle.patterns.specs.declared.PatternAnswer.{PatternAnswer}
 use Rattle.text.specs.Text.{decimal, Written}
 use Rattle.text.proofs.Writing.{written-within, written-both}
 use Rattle.show.specs.Blocks.{numbersIn, numbersText, blocksText}
 use Rattle.show.specs.Cells.{cellsText}
 use Rattle.answers.specs.declared.lines.Line.{Line}
-use Rattle.answers.specs.declared.deductions.Rule.{Rule}
+use Rattle.answers.specs.declared.deducing.Rule.{Rule}
 use Rattle.answers.specs.Lines.{lineOf}
 use Rattle.answers.specs.Texts.{unreadableText, refusedText}
 use Rattle.answers.specs.Frontier.{frontierText, answerTo, frontierLine}

@@ -15,16 +15,15 @@ use Rattle.blocks.specs.BlockSets.{Small, Whole}
 use Rattle.blocks.proofs.Behind.{set-whole}
 use Rattle.frontier.specs.Frontier.{frontier}
 use Rattle.frontier.specs.Answer.{answerAfter, refreshMatrixs}
+use Rattle.frontier.proofs.ReadFrontier.{frontier-fits}
 use Rattle.rules.specs.Found.{contradicted, found}
-use Rattle.rules.specs.Answers.{Seen}
 use Rattle.rules.proofs.LeftFits.{none-fits}
-use Rattle.rules.proofs.FrontierReady.{frontier-fits}
-use Rattle.rules.proofs.ReadableCalls.{Readable, call-readable, direct-readable, minus-readable}
 use Rattle.solutions.specs.Enumeration.{safeCells, mineCells, unsolvable, enumerated}
-use Rattle.solutions.specs.Calls.{solveEnumerate}
-use Rattle.solutions.proofs.EnumerationCalls.{enumeration-sound-on}
-use Rattle.answers.specs.declared.deductions.Rule.{Rule}
-use Rattle.answers.specs.declared.deductions.Rule.the-variants.{Direct, Minus, Enumerate}
+use Rattle.deductions.specs.Answers.{Seen, solveEnumerate}
+use Rattle.deductions.proofs.ReadableCalls.{Readable, call-readable, direct-readable, minus-readable}
+use Rattle.deductions.proofs.EnumerationCalls.{enumeration-sound-on}
+use Rattle.answers.specs.declared.deducing.Rule.{Rule}
+use Rattle.answers.specs.declared.deducing.Rule.the-variants.{Direct, Minus, Enumerate}
 use Rattle.answers.specs.Deductions.{called, Printable}
 
 -- refresh_matrixs

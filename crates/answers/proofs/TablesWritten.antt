@@ -19,8 +19,8 @@ use Rattle.refusals.specs.Tests.{positionTested}
 use Rattle.blocks.specs.Blocks.{Block}
 use Rattle.frontier.specs.declared.FrontierAnswer.{FrontierAnswer}
 use Rattle.frontier.specs.Frontier.{frontier}
-use Rattle.solutions.specs.Groups.{firsts}
-use Rattle.solutions.specs.Solutions.{solutions}
+use Rattle.groups.specs.Groups.{firsts}
+use Rattle.search.specs.Solutions.{solutions}
 use Rattle.text.specs.Text.{decimal, Written}
 use Rattle.text.proofs.Writing.{written-within, written-both}
 use Rattle.show.specs.Cells.{cellsText}
@@ -30,8 +30,7 @@ use Rattle.tables.specs.Tables.{TableSeen, tableSeen, refused, tableOf, blockAs
 use Rattle.answers.specs.declared.lines.Line.{Line}
 use Rattle.answers.specs.Lines.{lineOf}
 use Rattle.answers.specs.Frontier.{answerTo}
-use Rattle.answers.specs.Tables.{rowAt, rowsOf, nextRow, rowsText, noTableText, tableText, RowsWithin, seenText}
-use Rattle.answers.specs.Tables.{blockTable, tablesText, tablesAfter, tableLine}
+use Rattle.answers.specs.Tables.{rowAt, rowsOf, nextRow, rowsText, noTableText, tableText, RowsWithin, seenText, blockTable, tablesText, tablesAfter, tableLine}
 use Rattle.answers.proofs.AnswerWritten.{readable-written}
 
 -- ---- rows

@@ -3,7 +3,7 @@ use mathlib.Core.List.{List}
 use Prim.Native.Nat.{ℕ}
 use Rattle.answers.specs.declared.Call.{Call}
 use Rattle.answers.specs.declared.Call.the-variants.{Frontier, Direct, Minus, Pattern, Enumerate, Verdict, Table}
-use Rattle.answers.specs.declared.deductions.Rule.the-variants as rule
+use Rattle.answers.specs.declared.deducing.Rule.the-variants as rule
 use Rattle.answers.specs.Frontier.{frontierLine}
 use Rattle.answers.specs.Deductions.{deductionLine}
 use Rattle.answers.specs.Patterns.{patternLine}

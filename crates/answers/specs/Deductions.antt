@@ -9,13 +9,12 @@ use Rattle.refusals.specs.declared.Tested.the-variants.{Accepted, Refused}
 use Rattle.refusals.specs.Refusals.{refusalNumber}
 use Rattle.blocks.specs.declared.BlockSet.{BlockSet}
 use Rattle.blocks.specs.BlockSets.{blocksOf, Whole}
-use Rattle.rules.specs.Answers.{Seen, solveDirect, solveMinus}
-use Rattle.solutions.specs.Calls.{solveEnumerate}
+use Rattle.deductions.specs.Answers.{Seen, solveDirect, solveMinus, solveEnumerate}
 use Rattle.show.specs.Blocks.{numbersText, blocksText}
 use Rattle.show.specs.Cells.{cellsText}
 use Rattle.answers.specs.declared.lines.Line.{Line}
-use Rattle.answers.specs.declared.deductions.Rule.{Rule}
-use Rattle.answers.specs.declared.deductions.Rule.the-variants.{Direct, Minus, Enumerate}
+use Rattle.answers.specs.declared.deducing.Rule.{Rule}
+use Rattle.answers.specs.declared.deducing.Rule.the-variants.{Direct, Minus, Enumerate}
 use Rattle.answers.specs.Lines.{lineOf}
 use Rattle.answers.specs.Texts.{unreadableText, refusedText}
 

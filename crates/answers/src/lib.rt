@@ -1,13 +1,13 @@
 // What each call answers to a line of numbers, as a line of text in a lent buffer: the text of the oracle, so that a comparison is a `diff`.
-pub mod deductions;
+pub mod deducing;
 pub mod lines;
 pub mod table_text;
 pub mod verdicts;
 
-use deductions::Rule;
-use deductions::call_rule;
-use deductions::put_deduction;
-use deductions::put_refused;
+use deducing::Rule;
+use deducing::call_rule;
+use deducing::put_deduction;
+use deducing::put_refused;
 use frontier::refresh_matrixs;
 use lines::read_line;
 use patterns::PatternAnswer;

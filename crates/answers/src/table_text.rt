@@ -1,7 +1,7 @@
 // The solution tables of a position as text: for each block of its frontier in order, how many groups and solutions it has, and a row for each solution with
 // a value for each group. Each block's table is asked for in a fresh table of 16,384 bytes, and a block whose rows do not fit is a refusal in its place. The
 // rows stand in the lent table one after another, so the text is read off its front. specs/Tables.antt says what the text is.
-use super::deductions::put_refused;
+use super::deducing::put_refused;
 use super::lines::read_line;
 use frontier::refresh_matrixs;
 use refusals::Tested;

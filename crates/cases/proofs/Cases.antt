@@ -7,11 +7,11 @@ use Rattle.refusals.specs.Tests.{sizeOk, lengthOk, roomOk, boardCellsOk, positi
 use Rattle.frontier.specs.Frontier.{sources, blockOf, frontier, insideCells, knownMines}
 use Rattle.chunks.specs.Chunks.{chunkMatrix, chunkMatrixes}
 use Rattle.rules.specs.Direct.{sureMines, sureSafe, directLeft, direct}
-use Rattle.rules.specs.Minus.{minusMines, minusSafe, minusLeft, subtraction}
-use Rattle.rules.specs.Answers.{refusedAnswer, written, afterFound}
-use Rattle.solutions.specs.Groups.{firsts, groups, sizes, groupsIn}
-use Rattle.solutions.specs.Solutions.{weighed, solutions}
+use Rattle.subtraction.specs.Minus.{minusMines, minusSafe, minusLeft, subtraction}
+use Rattle.groups.specs.Groups.{firsts, groups, sizes, groupsIn}
+use Rattle.search.specs.Solutions.{weighed, solutions}
 use Rattle.solutions.specs.Enumeration.{safeCells, mineCells, enumerated}
+use Rattle.deductions.specs.Answers.{refusedAnswer, written, afterFound}
 use Rattle.tables.specs.Tables.{tableOf, blockAsked, calAllSolution}
 use Rattle.verdict.specs.Verdict.{judgedFrom, isSolvable}
 use Rattle.patterns.specs.Shapes.{amongMines, framed, foundAt, foundAnywhere, foundInCorner, patternFound}

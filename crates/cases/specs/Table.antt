@@ -13,9 +13,9 @@ use Rattle.blocks.specs.Blocks.{BlockEquation, Block}
 use Rattle.frontier.specs.Frontier.{frontier, insideCells, knownMines}
 use Rattle.rules.specs.Found.{Found}
 use Rattle.rules.specs.Direct.{direct}
-use Rattle.rules.specs.Minus.{subtraction}
-use Rattle.rules.specs.Answers.{Seen, deduction}
+use Rattle.subtraction.specs.Minus.{subtraction}
 use Rattle.solutions.specs.Enumeration.{enumerated}
+use Rattle.deductions.specs.Answers.{Seen, deduction}
 use Rattle.tables.specs.declared.TableAnswer.{TableAnswer}
 use Rattle.tables.specs.declared.TableAnswer.the-variants as table-answer
 use Rattle.tables.specs.Tables.{calAllSolution}

@@ -8,8 +8,8 @@ use Rattle.refusals.specs.declared.Refusal.{Refusal}
 use Rattle.refusals.specs.declared.Tested.{Tested}
 use Rattle.refusals.specs.declared.Tested.the-variants.{Accepted, Refused}
 use Rattle.refusals.specs.Refusals.{refusalNumber}
-use Rattle.rules.specs.declared.answer.DeductionAnswer.{DeductionAnswer}
-use Rattle.rules.specs.Answers.{Seen, seen}
+use Rattle.deductions.specs.declared.answer.DeductionAnswer.{DeductionAnswer}
+use Rattle.deductions.specs.Answers.{Seen, seen}
 use Rattle.tables.specs.declared.TableAnswer.{TableAnswer}
 use Rattle.tables.specs.Tables.{TableSeen, tableSeen}
 use Rattle.verdict.specs.declared.Verdict.{Verdict}

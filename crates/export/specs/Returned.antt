@@ -8,7 +8,7 @@ use Rattle.refusals.specs.declared.Tested.{Tested}
 use Rattle.refusals.specs.declared.Tested.the-variants as test
 use Rattle.refusals.specs.Refusals.{testedNumber}
 use Rattle.frontier.specs.declared.FrontierAnswer.{FrontierAnswer}
-use Rattle.rules.specs.Answers.{Seen}
+use Rattle.deductions.specs.Answers.{Seen}
 use Rattle.tables.specs.declared.TableAnswer.{TableAnswer}
 use Rattle.tables.specs.declared.TableAnswer.the-variants as table
 use Rattle.tables.specs.Tables.{TableSeen}

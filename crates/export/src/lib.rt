@@ -1,13 +1,13 @@
 // What C and Rust call. Every call answers 0 or document 01's number of the refusal; its counts go to the front of the lent slice `counts`, as many as that
 // has room for. A refusal writes nothing. Numbers and slices only (a slice is a pointer and its length), and nothing is asked of the caller.
+use deductions::solve_direct;
+use deductions::solve_enumerate;
+use deductions::solve_minus;
 use frontier::refresh_matrixs;
 use patterns::PatternAnswer;
 use patterns::unsolvable_structure;
 use refusals::Tested;
 use refusals::refusal_number;
-use rules::solve_direct;
-use rules::solve_minus;
-use solutions::solve_enumerate;
 use tables::TableAnswer;
 use tables::cal_all_solution;
 use verdict::Verdict;
@@ -25,8 +25,7 @@ ghost use Rattle.refusals.specs.declared.Tested.the-variants.{Accepted};
 ghost use Rattle.refusals.specs.Tests.{boardTested, startCell};
 ghost use Rattle.fitting.specs.Demand.{Demand3};
 ghost use Rattle.frontier.specs.Answer.{refreshMatrixs};
-ghost use Rattle.rules.specs.Answers.{solveDirect, solveMinus};
-ghost use Rattle.solutions.specs.Calls.{solveEnumerate};
+ghost use Rattle.deductions.specs.Answers.{solveDirect, solveMinus, solveEnumerate};
 ghost use Rattle.tables.specs.Tables.{calAllSolution};
 ghost use Rattle.patterns.specs.Answer.{unsolvableStructure};
 ghost use Rattle.verdict.specs.Verdict.{isSolvable};

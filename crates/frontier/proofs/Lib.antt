@@ -31,3 +31,5 @@ pub mod PlainReading
 pub mod CountTurns
 pub mod WrittenBlock
 pub mod BlocksSoFar
+-- the frontier of an accepted position, read as a block set
+pub mod ReadFrontier

@@ -22,9 +22,9 @@ use Rattle.lists.proofs.Among.{among-nodup, among-right, joined-once}
 use Rattle.lists.proofs.TurnedRound.{map-agree, keep-joined, map-joined, nodup-apart, add-new-behind}
 use Rattle.blocks.specs.Blocks.{BlockEquation, Block}
 use Rattle.blocks.specs.BlockSets.{allCells, allEquations}
+use Rattle.marks.specs.Marked.{Ready}
 use Rattle.rules.specs.Found.{lessMines}
 use Rattle.rules.specs.Direct.{full, clear, cellsOf, sureMines, afterMines, sureSafe, fromLast}
-use Rattle.rules.specs.Marked.{Ready}
 use Rattle.rules.proofs.Answers.{from-last-has}
 use Rattle.rules.proofs.DirectLaws.{notFull, cells-of-equation, after-mines-from, sure-mine-equation, sure-safe-equation}
 

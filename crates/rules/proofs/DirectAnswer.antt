@@ -8,10 +8,10 @@ use Rattle.blocks.specs.BlockSets.{allEquations, blockSet, Whole}
 use Rattle.blocks.specs.declared.BlockSet.{BlockSet}
 use Rattle.blocks.proofs.Behind.{set-whole}
 use Rattle.chunks.specs.Chunks.{chunkMatrixes}
+use Rattle.marks.specs.Marked.{Ready}
 use Rattle.rules.specs.Found.{contradicted}
 use Rattle.rules.specs.Direct.{sureMines, sureSafe, directLeft, negative, direct}
-use Rattle.rules.specs.Marked.{Ready, Sweeps}
-use Rattle.rules.specs.Answers.{ruleAnswer, listsOf, sweptLists}
+use Rattle.rules.specs.Answers.{Sweeps, ruleAnswer, listsOf, sweptLists}
 use Rattle.rules.specs.declared.answer.RuleAnswer.{RuleAnswer}
 use Rattle.rules.specs.declared.direct.Swept.{Swept}
 use Rattle.rules.proofs.LeftFits.{none-fits}

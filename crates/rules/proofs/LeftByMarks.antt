@@ -23,9 +23,9 @@ use Rattle.blocks.specs.Blocks.{BlockEquation, Block}
 use Rattle.blocks.specs.BlockSets.{allCells, allEquations}
 use Rattle.blocks.specs.Places.{marked, Marks}
 use Rattle.blocks.proofs.MarkLaws.{marks-has}
+use Rattle.marks.specs.Marked.{Ready, leftEquation, stays, leftEquations, leftBlock, leftBlocks}
 use Rattle.rules.specs.Found.{lessMines, lessSafe}
 use Rattle.rules.specs.Direct.{full, clear, sureMines, afterMines, sureSafe, afterSafe, directLeft}
-use Rattle.rules.specs.Marked.{Ready, leftEquation, stays, leftEquations, leftBlock, leftBlocks}
 use Rattle.rules.proofs.DirectLaws.{notFull, notClear, equation-cells-of}
 use Rattle.rules.proofs.AllBlocks.{ready-inside, own-mine, own-safe}
 

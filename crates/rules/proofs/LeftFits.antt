@@ -9,26 +9,18 @@ use Rattle.blocks.specs.BlockSets.{Small}
 use Rattle.chunks.specs.Chunks.{chunkMatrixes}
 use Rattle.chunks.proofs.Sizes.{chunk-small}
 use Rattle.rules.specs.Direct.{directLeft, direct}
-use Rattle.rules.specs.Minus.{minusBlocks, subtraction}
 use Rattle.rules.proofs.DirectLaws.{direct-blocks-left}
-use Rattle.rules.proofs.MinusLaws.{subtraction-blocks-left}
-use Rattle.rules.proofs.SmallerBlocks.{direct-fits, minus-fits}
+use Rattle.rules.proofs.SmallerBlocks.{direct-fits}
 
 -- no blocks
 pub none-fits : Small []
 none-fits = record { few-cells = omega arith; few-equations = omega arith; few-blocks = omega arith; on-board = refl; small = refl }
 
 -- blocks split anew, or none
-split-fits : (t : Bool) (bs : List Block) → Small bs → Small (cond t [] (chunkMatrixes bs))
+pub split-fits : (t : Bool) (bs : List Block) → Small bs → Small (cond t [] (chunkMatrixes bs))
 split-fits true bs s = none-fits
 split-fits false bs s = chunk-small bs s
 
 -- the direct rule
 pub direct-left-fits : (bs : List Block) → Small bs → Small (direct bs .left)
 direct-left-fits bs s = rw (direct-blocks-left bs) (split-fits (direct bs .contradiction) (map directLeft bs) (direct-fits bs s))
-
--- the subtraction rule
-pub subtraction-left-fits : (bs : List Block) → Small bs → Small (subtraction bs .left)
-subtraction-left-fits bs s =
-    rw (subtraction-blocks-left bs)
-    (split-fits (subtraction bs .contradiction) (direct (minusBlocks bs) .left) (direct-left-fits (minusBlocks bs) (minus-fits bs s)))

@@ -22,7 +22,7 @@ use Rattle.lists.proofs.AddNew.{add-new-there, add-new-push}
 use Rattle.lists.proofs.TurnedRound.{take-back}
 use Rattle.blocks.specs.Places.{marked, Marks}
 use Rattle.blocks.proofs.MarkLaws.{marks-has, marks-push, marks-none}
-use Rattle.rules.specs.Marked.{Listed}
+use Rattle.marks.specs.Marked.{Listed}
 
 -- ---- no cell
 

@@ -1,5 +1,5 @@
 -- Blocks made smaller fit into a block set where the blocks do: cells, equations and blocks only get fewer, and an equation without known cells is no larger.
--- So what either rule leaves fits. Rests on the laws of lists that stand among others. Assumes nothing.
+-- So what the direct rule leaves fits. Rests on the laws of lists that stand among others. Assumes nothing.
 use mathlib.Core.Path.{_≡_, ap}
 use mathlib.Core.Bool.{Bool, true, false, not, cond, _&&_, _||_}
 use mathlib.Core.List.{List, [], _∷_, map, map-map}
@@ -8,7 +8,7 @@ use native.Mathlib.Omega.{arith}
 use lib.Dec.{leb, ltb}
 use lib.ListN.{length, length-append, length-map}
 use borrow.Author.Tests.{le-leb, leb-true, lt-ltb, ltb-true}
-use Rattle.lists.specs.Lists.{keep, count, all, empty, has, joined}
+use Rattle.lists.specs.Lists.{keep, count, all, has, joined}
 use Rattle.lists.proofs.Tests.{and-left, and-right}
 use Rattle.lists.proofs.All.{all-keep, has-all, all-has}
 use Rattle.lists.proofs.Occurrences.{all-in}
@@ -20,7 +20,6 @@ use Rattle.blocks.specs.Blocks.{BlockEquation, Block}
 use Rattle.blocks.specs.BlockSets.{allCells, allEquations, smallEquation, Small}
 use Rattle.rules.specs.Found.{lessMines, lessSafe}
 use Rattle.rules.specs.Direct.{full, clear, sureMines, afterMines, sureSafe, directLeft}
-use Rattle.rules.specs.Minus.{minusMines, minusSafe, minusLeft, minusBlocks}
 use Rattle.rules.proofs.Answers.{each-of-made, each-of-kept}
 
 -- ---- an equation
@@ -42,10 +41,10 @@ smaller-equation e f k h =
       lt-ltb (e .rest - k) 256 (omega arith),
     )
 
-less-mines-small : (known : List ℕ) (e : BlockEquation) → SmallEquation e → SmallEquation (lessMines known e)
+pub less-mines-small : (known : List ℕ) (e : BlockEquation) → SmallEquation e → SmallEquation (lessMines known e)
 less-mines-small known e = smaller-equation e (λ c. not (has known c)) (count (has known) (e .cells))
 
-less-safe-small : (known : List ℕ) (e : BlockEquation) → SmallEquation e → SmallEquation (lessSafe known e)
+pub less-safe-small : (known : List ℕ) (e : BlockEquation) → SmallEquation e → SmallEquation (lessSafe known e)
 less-safe-small known e h =
     let same : e .rest - 0 ≡ e .rest = omega arith in
     rw same at (smaller-equation e (λ c. not (has known c)) 0 h)
@@ -114,7 +113,7 @@ module _ (t : Block → Bool) where
     small = all-of smallEquation (allEquations (keep t bs)) (each-of-kept SmallEquation t bs (λ e n. all-in smallEquation (allEquations bs) (s .small) n));
   }
 
--- ---- what the rules leave
+-- ---- what the direct rule leaves
 
 -- the direct rule
 direct-smaller : (b : Block) → Smaller (directLeft b) b
@@ -142,27 +141,3 @@ direct-smaller b =
 
 pub direct-fits : (bs : List Block) → Small bs → Small (map directLeft bs)
 direct-fits = made-fits directLeft direct-smaller
-
--- the subtraction rule
-minus-smaller : (b : Block) → Smaller (minusLeft b) b
-unfolding minusLeft
-minus-smaller b = record {
-  cells = keep-among (λ c. not (has (minusMines b) c || has (minusSafe b) c)) (b .cells);
-  equations = omega (arith, length-map (b .equations) (λ (e : BlockEquation). lessSafe (minusSafe b) (lessMines (minusMines b) e)));
-  small = λ h.
-      each-mapped SmallEquation (λ (e : BlockEquation). lessSafe (minusSafe b) (lessMines (minusMines b) e)) (b .equations)
-      (λ e m. less-safe-small (minusSafe b) (lessMines (minusMines b) e) (less-mines-small (minusMines b) e (h e m)));
-}
-
--- a block that still has a cell
-abbrev pub hasCell : Block → Bool
-hasCell b = not (empty (b .cells))
-
-pub left-among : (bs : List Block) → Among (allCells (map minusLeft bs)) (allCells bs)
-left-among = made-among minusLeft minus-smaller
-
-pub minus-among : (bs : List Block) → Among (allCells (minusBlocks bs)) (allCells bs)
-minus-among bs f = omega (arith, some-among hasCell (map minusLeft bs) f, left-among bs f)
-
-pub minus-fits : (bs : List Block) → Small bs → Small (minusBlocks bs)
-minus-fits bs s = some-fits hasCell (map minusLeft bs) (made-fits minusLeft minus-smaller bs s)

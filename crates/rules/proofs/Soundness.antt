@@ -1,25 +1,27 @@
--- The two rules at a position. A layout that fits solves the equations of the frontier, so what the rules list is the same in every layout that fits, and
--- where some layout fits they meet no contradiction. Listed cells are cells of the frontier, so closed, and none stands twice in a list. So both are
--- sound rules for the verdict on every board. `near` lists at most eight neighbours of a cell, none twice. Rests on DirectLaws and MinusLaws. Assumes nothing.
+-- Rules at a position. A layout that fits solves the equations of the frontier, so what the direct rule lists is the same in every layout that fits, and
+-- where some layout fits it meets no contradiction. Listed cells are cells of the frontier, so closed, and none stands twice in a list. So it is a
+-- sound rule for the verdict on every board. `near` lists at most eight neighbours of a cell, none twice. Rests on DirectLaws. Assumes nothing.
 use mathlib.Core.Path.{_≡_}
 use mathlib.Core.Logic.{inl, inr}
 use mathlib.Core.Bool.{Bool, true, false}
-use mathlib.Core.List.{List, _++_, List·Memᴰ}
-use Prim.Native.Nat.{ℕ, _+_, _≤_}
+use mathlib.Core.List.{List, _++_}
+use Prim.Native.Nat.{ℕ, _+_, _≤_, _<_}
 use native.Mathlib.Omega.{arith}
 use lib.ListN.{length, length-append}
-use borrow.Author.Tests.{eqb-true, ne-eqb}
-use Rattle.lists.specs.Lists.{keep, count, has, nodup}
+use lib.Dec.{ltb}
+use borrow.Author.Tests.{eqb-true, ne-eqb, lt-ltb}
+use Rattle.lists.specs.Lists.{keep, count, has, nodup, all}
 use Rattle.lists.proofs.Tests.{Decided, decided, clash}
 use Rattle.lists.proofs.Counts.{length-keep}
 use Rattle.lists.proofs.Rearranged.{rearranged-length}
 use Rattle.lists.proofs.Among.{Among, among-length, among-has, among-nodup, among-left, among-right, keep-both-among}
+use Rattle.lists.proofs.All.{has-all}
 use Rattle.grid.specs.Cells.{shows}
 use Rattle.fitting.specs.Layouts.{mineAt, Fits, Forced}
 use Rattle.fitting.specs.Equations.{isClosed, isKnownMine}
-use Rattle.fitting.specs.Passes.{Found as RuleFound}
 use Rattle.fitting.specs.Rules.{Sound}
-use Rattle.blocks.specs.Blocks.{BlockEquation, Block}
+use Rattle.fitting.proofs.Layouts.{on-board}
+use Rattle.blocks.specs.Blocks.{Block}
 use Rattle.blocks.specs.BlockSets.{allCells, allEquations}
 use Rattle.frontier.specs.Frontier.{closedBeside, equationOf, cellsMet, frontier}
 use Rattle.frontier.proofs.BlockLaws.{equation-rearranged, frontier-proper, Origin, equation-origin}
@@ -27,10 +29,8 @@ use Rattle.frontier.proofs.Coverage.{frontier-closed, frontier-once, frontier-s
 use Rattle.frontier.proofs.Fitting.{fits-solves}
 use Rattle.rules.specs.Found.{Found, contradicted, ruleOf}
 use Rattle.rules.specs.Direct.{direct}
-use Rattle.rules.specs.Minus.{subtraction}
 use Rattle.rules.proofs.TakenOut.{RestsCover}
 use Rattle.rules.proofs.DirectLaws.{direct-alone, direct-among, direct-no-contradiction, direct-mines-true, direct-safe-false}
-use Rattle.rules.proofs.MinusLaws.{subtraction-alone, subtraction-mines-among, subtraction-safe-among, subtraction-no-contradiction, subtraction-mines-true, subtraction-safe-false}
 
 -- what the lists of an answer say is so in every layout that fits; their cells are of the frontier; there is no contradiction where a layout fits, and
 -- where there is one it comes alone
@@ -56,6 +56,13 @@ module _ (near : ℕ → List ℕ) (p : List ℕ) (l : List ℕ) (among : Among 
   -- and there are no more than the board has cells
   pub listed-few : length l ≤ length p
   listed-few = omega (arith, among-length l (allCells (frontier near p)) among, frontier-size near p)
+
+-- cells of the frontier have numbers below the number of cells
+pub listed-below : (near : ℕ → List ℕ) (p l : List ℕ) → Among l (allCells (frontier near p)) → all (λ c. ltb c (length p)) l ≡ true
+listed-below near p l among = has-all (λ c. ltb c (length p)) l (λ c h. lt-ltb c (length p) (below c (listed-closed near p l among c h)))
+  where
+    below : (c : ℕ) → shows p c ≡ 10 → c < length p
+    below c e = on-board p c (omega arith)
 
 -- where some layout fits, no cell is in both lists
 pub listed-apart : (near : ℕ → List ℕ) (p : List ℕ) (answer : Found) → SoundAt near p answer → (m : List Bool) → Fits near p m
@@ -107,7 +114,7 @@ frontier-covers near p once few e m = go (equation-origin near p e m)
           few (o .source),
         ))
 
--- ---- the two rules
+-- ---- the direct rule
 
 module _ (near : ℕ → List ℕ) (once : (c : ℕ) → nodup (near c) ≡ true) (few : (c : ℕ) → length (near c) ≤ 8) where
   -- the direct rule
@@ -124,24 +131,6 @@ module _ (near : ℕ → List ℕ) (once : (c : ℕ) → nodup (near c) ≡ true
       both : Among (direct (frontier near p) .mines ++ direct (frontier near p) .safe) (allCells (frontier near p))
       both = direct-among (frontier near p) (frontier-proper near p)
 
-  -- the subtraction rule
-  pub subtraction-sound-at : (p : List ℕ) → SoundAt near p (subtraction (frontier near p))
-  subtraction-sound-at p = record {
-    safe-free = λ c h m fit. subtraction-safe-false (frontier near p) (mineAt m) proper (fits-solves near p once few m fit) c h;
-    mines-mined = λ c h m fit. subtraction-mines-true (frontier near p) (mineAt m) proper (fits-solves near p once few m fit) c h;
-    safe-among = subtraction-safe-among (frontier near p) (frontier-proper near p);
-    mines-among = subtraction-mines-among (frontier near p) (frontier-proper near p);
-    no-contradiction = λ m fit. subtraction-no-contradiction (frontier near p) (mineAt m) proper (fits-solves near p once few m fit);
-    alone = subtraction-alone (frontier near p);
-  }
-    where
-      proper : (b : Block) → List·Memᴰ b (frontier near p) → (e : BlockEquation) → List·Memᴰ e (b .equations) → nodup (e .cells) ≡ true
-      proper b m = frontier-proper near p b m .equations-once
-
   -- so the direct rule is sound for the verdict, with the grade 1
   pub direct-rule-sound : (b : List ℕ) → Sound near b (ruleOf near direct 1)
   direct-rule-sound = rule-sound near direct 1 direct-sound-at
-
-  -- and the subtraction rule, with the grade 2
-  pub subtraction-rule-sound : (b : List ℕ) → Sound near b (ruleOf near subtraction 2)
-  subtraction-rule-sound = rule-sound near subtraction 2 subtraction-sound-at

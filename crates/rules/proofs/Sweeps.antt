@@ -26,9 +26,9 @@ use Rattle.blocks.specs.BlockSets.{slotCells}
 use Rattle.blocks.specs.Places.{marked, Marks, OnBoard, equationsFrom}
 use Rattle.blocks.proofs.MarkLaws.{marks-has}
 use Rattle.blocks.proofs.Between.{equationOf, listed-cells}
+use Rattle.marks.specs.Marked.{Listed}
 use Rattle.rules.specs.Found.{lessMines}
 use Rattle.rules.specs.Direct.{full, clear, sureMines, afterMines, sureSafe}
-use Rattle.rules.specs.Marked.{Listed}
 use Rattle.rules.proofs.DirectLaws.{notFull, equation-cells-of}
 
 -- ---- the cells of the equations that pass a test, from the last to the first

@@ -1,6 +1,4 @@
--- The direct and the subtraction rule on blocks, in the Rust's order, their answers, and what the functions that run them are told.
+-- What a rule finds in blocks and how its answer is held, and the direct rule, in the Rust's order.
 pub mod Found
 pub mod Direct
-pub mod Minus
-pub mod Marked
 pub mod Answers

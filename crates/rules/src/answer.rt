@@ -1,19 +1,9 @@
-// The answers of a rule on blocks and of a call on a position, and how the one becomes the other: the lists at the front of the lent slices, 12 at each
-// safe cell of the position and 11 at each mine, written last. A contradiction has empty lists, so that nothing is written.
-use super::listing::put_list;
+// The struct that a rule on blocks answers with: the direct rule, subtraction and enumeration.
 use blocks::BlockSet;
 use blocks::empty_set;
-use grid::window::wide;
-use refusals::Refusal;
-use refusals::Tested;
 ghost use mathlib.Core.Path.{_≡_};
-ghost use mathlib.Core.Bool.{true};
-ghost use Prim.Native.Nat.{_≤_};
-ghost use lib.Dec.{ltb};
-ghost use lib.ListN.{length, take};
-ghost use Rattle.lists.specs.Lists.{all};
 ghost use Rattle.rules.specs.Found.{contradicted};
-ghost use Rattle.rules.specs.Answers.{ruleAnswer, listsIn, refusedAnswer, toldBy, written, afterFound, foundIn, Held, seen};
+ghost use Rattle.rules.specs.Answers.{ruleAnswer, listsIn};
 
 // What a rule finds in a block set: a contradiction, or two lists of cells with their counts, and the blocks left. Entries past a count are 0.
 pub struct RuleAnswer {
@@ -58,72 +48,5 @@ pub fn contradiction() -> RuleAnswer
         mines: [0; 1024],
         mine_count: 0,
         left: empty_set(),
-    }
-}
-
-// What a call that deduces answers: the tests' answer or the contradiction, how many cells the two lists have, and the blocks left.
-pub struct DeductionAnswer {
-    pub tested: Tested,
-    pub safe: usize,
-    pub mines: usize,
-    pub blocks: BlockSet,
-}
-
-// A refusal: its name alone.
-pub fn refused(refusal: Refusal) -> DeductionAnswer
-    ensures { λ r. ⌜ r ≡ refusedAnswer refusal ⌝ }
-{
-    DeductionAnswer {
-        tested: Tested::Refused(refusal),
-        safe: 0,
-        mines: 0,
-        blocks: empty_set(),
-    }
-}
-
-// Writes a value at each cell of a list.
-fn mark_cells(list: &[u16; 1024], count: usize, value: u8, position: &mut [u8])
-    requires { ⌜ (length (now list) ≡ 1024) × (count ≤ 1024) ⌝ }
-    requires { ⌜ all (λ c. ltb c (length (now position))) (take count (now list)) ≡ true ⌝ }
-    ensures { λ _. ⌜ now (position .exit) ≡ written value (take count (now (list .entry))) (now (position .entry)) ⌝ }
-{
-    for k in 0..count {
-        position[wide(list[k])] = value;
-    }
-}
-
-// What the caller is told of a contradiction: refusal 6.
-fn told(contradiction: bool) -> Tested
-    ensures { λ r. ⌜ r ≡ toldBy contradiction ⌝ }
-{
-    if contradiction {
-        Tested::Refused(Refusal::Contradiction)
-    } else {
-        Tested::Accepted
-    }
-}
-
-// Hands a rule's answer to the caller.
-pub fn give_answer(
-    found: RuleAnswer,
-    position: &mut [u8],
-    safe: &mut [u16],
-    mines: &mut [u16],
-) -> DeductionAnswer
-    requires { ⌜ Held found (length (now position)) (length (now safe)) (length (now mines)) ⌝ }
-    ensures { λ r. ⌜ seen r (now (position .exit)) (now (safe .exit)) (now (mines .exit)) ≡ afterFound (foundIn found) (now (position .entry)) (now (safe .entry)) (now (mines .entry)) ⌝ }
-{
-    let safe_list = found.safe;
-    let mine_list = found.mines;
-    let left = found.left;
-    put_list(&safe_list, found.safe_count, safe, 0);
-    put_list(&mine_list, found.mine_count, mines, 0);
-    mark_cells(&safe_list, found.safe_count, 12, position);
-    mark_cells(&mine_list, found.mine_count, 11, position);
-    DeductionAnswer {
-        tested: told(found.contradiction),
-        safe: found.safe_count,
-        mines: found.mine_count,
-        blocks: left,
     }
 }

@@ -4,10 +4,6 @@
 use super::answer::Lists;
 use super::answer::RuleAnswer;
 use super::answer::contradiction;
-use super::left::has_negative;
-use super::left::left_blocks;
-use super::marks::count_marked;
-use super::marks::marked_in_one;
 use blocks::BlockSet;
 use blocks::begin_at;
 use blocks::slots_at;
@@ -15,6 +11,10 @@ use chunks::chunk_matrixes;
 use frontier::equations::Equations;
 use grid::window::Neighbours;
 use grid::window::wide;
+use marks::count_marked;
+use marks::left::has_negative;
+use marks::left::left_blocks;
+use marks::marked_in_one;
 ghost use mathlib.Core.Path.{_≡_};
 ghost use mathlib.Core.Bool.{not};
 ghost use mathlib.Core.List.{[], reverse};
@@ -23,9 +23,9 @@ ghost use lib.ListN.{length, take};
 ghost use Rattle.lists.specs.Lists.{keep, addNew};
 ghost use Rattle.blocks.specs.BlockSets.{blocksOf, Whole};
 ghost use Rattle.blocks.specs.Places.{marked, Marks, OnBoard, Slots, equationsFrom};
+ghost use Rattle.marks.specs.Marked.{Ready, Listed};
 ghost use Rattle.rules.specs.Direct.{sureMines, sureSafe, direct};
-ghost use Rattle.rules.specs.Marked.{Ready, Listed, Sweeps};
-ghost use Rattle.rules.specs.Answers.{ruleAnswer, sweptLists};
+ghost use Rattle.rules.specs.Answers.{Sweeps, ruleAnswer, sweptLists};
 
 // The i-th of `len` places counted from the last, which is the 0-th.
 fn from_last(len: usize, i: usize) -> usize

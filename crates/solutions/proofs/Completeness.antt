@@ -30,10 +30,11 @@ use Rattle.frontier.proofs.Coverage.{beside-open-frontier}
 use Rattle.frontier.proofs.Fitting.{Solves, fits-solves-block, solutions-force, solutions-allow}
 use Rattle.rules.specs.Found.{Found, ruleOf}
 use Rattle.rules.specs.Direct.{direct}
-use Rattle.rules.specs.Minus.{subtraction}
 use Rattle.rules.proofs.Answers.{answer-alone}
-use Rattle.rules.proofs.Soundness.{SoundAt, rule-sound, direct-rule-sound, subtraction-rule-sound}
-use Rattle.solutions.specs.Solutions.{solutions}
+use Rattle.rules.proofs.Soundness.{SoundAt, rule-sound, direct-rule-sound}
+use Rattle.subtraction.specs.Minus.{subtraction}
+use Rattle.subtraction.proofs.Soundness.{subtraction-rule-sound}
+use Rattle.search.specs.Solutions.{solutions}
 use Rattle.solutions.specs.Enumeration.{safeCells, mineCells, unsolvable, enumerated}
 use Rattle.solutions.specs.ThreeRules.{threeRules}
 use Rattle.solutions.proofs.EnumerationLaws.{solved-row, safe-cell, mine-cell, not-safe-cell, safe-cells-among, mine-cells-among}

@@ -1,6 +1,6 @@
 -- Enumeration of a block: a cell is free in all that solves its equations exactly where its group is without a mine in every row, and a mine in all
 -- exactly where its group is full in every row; else some row, and so something that solves the equations, shows the contrary. So `safeCells` and
--- `mineCells` list exactly the cells of the block that are the same in all. For a block as it should be (`Proper`). Rests on GroupRows. Assumes nothing.
+-- `mineCells` list exactly the cells of the block that are the same in all. For a block as it should be (`Proper`). Rests on GroupRows of the crate search. Assumes nothing.
 use mathlib.Core.Path.{_≡_, sym, ap, _∙_}
 use mathlib.Core.Logic.{inl, inr, _↔_}
 use mathlib.Core.Bool.{Bool, true, false}
@@ -24,12 +24,12 @@ use Rattle.fitting.proofs.Groups.{Row, row-solution, row-safe, row-mine, row-ha
 use Rattle.blocks.specs.Blocks.{Block}
 use Rattle.frontier.proofs.BlockLaws.{Proper}
 use Rattle.frontier.proofs.Fitting.{saysIn, Solves}
-use Rattle.solutions.specs.Groups.{firsts, groups, groupOf, sizes}
-use Rattle.solutions.specs.Solutions.{solutions}
+use Rattle.groups.specs.Groups.{firsts, groups, groupOf, sizes}
+use Rattle.groups.proofs.GroupLaws.{groups-many, size-at, group-below, group-only, group-of-block, group-of-below, in-own-group, groups-rearranged}
+use Rattle.search.specs.Solutions.{solutions}
+use Rattle.search.proofs.EquationGroups.{blockGroups}
+use Rattle.search.proofs.GroupRows.{listed-row, row-of-groups, solution-listed, row-has-solution}
 use Rattle.solutions.specs.Enumeration.{cellsWhere, neverMined, alwaysMined, safeCells, mineCells}
-use Rattle.solutions.proofs.GroupLaws.{groups-many, size-at, group-below, group-only, group-of-block, group-of-below, in-own-group, groups-rearranged}
-use Rattle.solutions.proofs.EquationGroups.{blockGroups}
-use Rattle.solutions.proofs.GroupRows.{listed-row, row-of-groups, solution-listed, row-has-solution}
 
 module _ (b : Block) (proper : Proper b) where
   -- ---- some row, or none

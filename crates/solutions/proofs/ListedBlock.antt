@@ -1,6 +1,6 @@
 -- What enumeration lists of a block, from what `grouped` and `shown` hold of it. The block's cells whose group is g, in the block's order, are the cells of group g; so
 -- the cells of the groups that no solution shows with a mine are `safeCells`, and those of the groups that every solution fills are `mineCells`. Where the first
--- group is shown with no mine and no free cell there is no solution, and only there: the group has a cell. Rests on GroupLaws. Assumes nothing.
+-- group is shown with no mine and no free cell there is no solution, and only there: the group has a cell. Rests on GroupLaws of the crate groups. Assumes nothing.
 use mathlib.Core.Path.{_≡_, refl, sym, ap, _∙_}
 use mathlib.Core.Logic.{inl, inr}
 use mathlib.Core.Bool.{Bool, true, false, not, cond}
@@ -23,17 +23,18 @@ use Rattle.lists.proofs.ReadBack.{range-made}
 use Rattle.blocks.specs.Blocks.{Block}
 use Rattle.blocks.specs.Places.{blockFrom}
 use Rattle.blocks.specs.declared.Bounds.{Bounds}
-use Rattle.rules.specs.Marked.{cellsWith}
-use Rattle.solutions.specs.declared.combine.Grouped.{Grouped}
+use Rattle.marks.specs.Marked.{cellsWith}
+use Rattle.groups.specs.declared.Grouped.{Grouped}
+use Rattle.groups.specs.Groups.{alike, firsts, groups, groupOf, sizes}
+use Rattle.groups.specs.Grouping.{Combinable, grouped}
+use Rattle.groups.proofs.GroupLaws.{firsts-some, group-at, group-only, in-group, size-positive}
+use Rattle.groups.proofs.BlockColumns.{block-cells}
+use Rattle.search.specs.Solutions.{solutions}
+use Rattle.search.proofs.ReadingGroups.{groups-read}
 use Rattle.solutions.specs.declared.asking.Shown.{Shown}
-use Rattle.solutions.specs.Groups.{alike, firsts, groups, groupOf, sizes}
-use Rattle.solutions.specs.Solutions.{solutions}
 use Rattle.solutions.specs.Enumeration.{cellsWhere, neverMined, alwaysMined, safeCells, mineCells}
-use Rattle.solutions.specs.Grouping.{Combinable, grouped, shown}
+use Rattle.solutions.specs.Asking.{shown}
 use Rattle.solutions.specs.Listing.{unmarkedGroups}
-use Rattle.solutions.proofs.GroupLaws.{firsts-some, group-at, group-only, in-group, size-positive}
-use Rattle.solutions.proofs.BlockColumns.{block-cells}
-use Rattle.solutions.proofs.ReadingGroups.{groups-read}
 
 -- a mark stands where a test fails
 unmarked-passes : (t : Bool) → not (eqb (bit (not t)) 1) ≡ t

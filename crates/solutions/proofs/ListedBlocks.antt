@@ -26,14 +26,15 @@ use Rattle.blocks.proofs.Behind.{small-first, set-whole}
 use Rattle.blocks.proofs.Standing.{block-in, arrays-in}
 use Rattle.rules.specs.Found.{contradicted}
 use Rattle.rules.specs.Answers.{ruleAnswer}
-use Rattle.solutions.specs.Solutions.{solutions}
+use Rattle.groups.specs.Grouping.{Combinable, grouped}
+use Rattle.groups.specs.declared.Grouped.{Grouped}
+use Rattle.groups.proofs.GroupLaws.{combinable-proper}
+use Rattle.search.specs.Solutions.{solutions}
+use Rattle.search.proofs.ReadingGroups.{groups-read, groups-few}
 use Rattle.solutions.specs.Enumeration.{safeCells, mineCells, unsolvable, enumerated}
-use Rattle.solutions.specs.Grouping.{Combinable, grouped, shown}
+use Rattle.solutions.specs.Asking.{shown}
 use Rattle.solutions.specs.Listing.{unmarkedGroups}
-use Rattle.solutions.specs.declared.combine.Grouped.{Grouped}
 use Rattle.solutions.specs.declared.asking.Shown.{Shown}
-use Rattle.solutions.proofs.GroupLaws.{combinable-proper}
-use Rattle.solutions.proofs.ReadingGroups.{groups-read, groups-few}
 use Rattle.solutions.proofs.ListedBlock.{safe-listed, mines-listed, first-bits, unshown-unsolved, shown-solved}
 use Rattle.solutions.proofs.EnumerationLaws.{safe-cells-among, mine-cells-among}
 

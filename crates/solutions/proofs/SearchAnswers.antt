@@ -2,31 +2,57 @@
 -- marked already (`Question`). What is marked is what some solution shows, if it was before; and of the first group of the order all that some
 -- solution shows is marked after the two questions about it. Rests on the laws of the search tree in any order. Assumes nothing.
 use mathlib.Core.Path.{_≡_, refl, sym, ap, _∙_}
-use mathlib.Core.Logic.{inl, inr}
-use mathlib.Core.Bool.{true, false, not}
+use mathlib.Core.Logic.{inl, inr, _≢_}
+use mathlib.Core.Bool.{true, false, not, _&&_}
 use mathlib.Core.List.{List, [], _∷_, map, List·Memᴰ}
 use Prim.Native.Nat.{ℕ, suc, _+_, _-_, _≤_, _<_}
 use native.Mathlib.Omega.{arith}
-use lib.Dec.{eqb, ltb}
+use lib.Dec.{eqb, ltb, leb}
 use lib.ListN.{length, getD, take}
 use lib.Seq.{getD-take}
-use borrow.Author.Tests.{eqb-true, eqb-false, ltb-true, lt-ltb, ne-eqb}
+use borrow.Author.Tests.{eqb-true, eqb-false, ltb-true, lt-ltb, ne-eqb, le-leb, lt-leb, le-ltb}
 use Rattle.lists.specs.Lists.{all, empty}
 use Rattle.lists.proofs.Tests.{Decided, decided, clash}
 use Rattle.lists.proofs.All.{all-at}
 use Rattle.lists.proofs.Occurrences.{empty-nothing, all-in}
 use Rattle.blocks.specs.Blocks.{Block}
-use Rattle.solutions.specs.Groups.{firsts, sizes}
-use Rattle.solutions.specs.Solutions.{byGroup, solutions}
+use Rattle.groups.specs.Groups.{firsts, sizes}
+use Rattle.groups.specs.Grouping.{Combinable, grouped}
+use Rattle.groups.proofs.GroupLaws.{firsts-some}
+use Rattle.search.specs.Solutions.{byGroup, solutions}
+use Rattle.search.specs.Searching.{Ordered, treeFrom}
+use Rattle.search.proofs.Orders.{EachOnce, ordered-each-once, readAt, values-by-group}
+use Rattle.search.proofs.ReadingGroups.{groups-read, sizes-read}
+use Rattle.search.proofs.TreeSolutions.{groupsOf, sizeAt, searchedFrom, branch-solution, test-in-all}
 use Rattle.solutions.specs.Enumeration.{neverMined, alwaysMined}
-use Rattle.solutions.specs.Grouping.{Combinable, grouped}
-use Rattle.solutions.specs.Searching.{Ordered, treeFrom}
 use Rattle.solutions.specs.Asking.{mineIn, freeIn, Noted, Answered, OverGroups, ShownOnly, Told, Stay}
-use Rattle.solutions.proofs.Orders.{EachOnce, ordered-each-once, readAt, values-by-group}
-use Rattle.solutions.proofs.ReadingGroups.{groups-read, sizes-read}
-use Rattle.solutions.proofs.GroupLaws.{firsts-some}
-use Rattle.solutions.proofs.TreeSolutions.{groupsOf, sizeAt, searchedFrom, branch-solution, never-mined, always-mined}
 use Rattle.solutions.proofs.NotedMarks.{noted-there, noted-stay, only-noted, stay-same}
+
+module _ (b : Block) (c : Combinable b) (positive : grouped b .negative ≡ false) where
+  module _ (order : List ℕ) (o : EachOnce (take (grouped b .groups) order) (grouped b .groups)) where
+    -- no row with a mine in the first group: no solution has one there
+    pub never-mined : empty (searchedFrom b order 1 (sizeAt b (getD order 0 0))) ≡ neverMined b (getD order 0 0)
+    never-mined = test-in-all b c positive order o 1 (sizeAt b (getD order 0 0)) (omega arith) (λ x. eqb x 0) (λ x l. outside x l (decided (eqb x 0)))
+      where
+        outside : (x : ℕ) → x ≤ sizeAt b (getD order 0 0) → Decided (eqb x 0) → eqb x 0 ≡ not (leb 1 x && ltb x (1 + sizeAt b (getD order 0 0)))
+        outside x l (inl e) = rw (e, lt-leb 1 x (omega (arith, eqb-true x 0 e)))
+        outside x l (inr e) =
+            let d : x ≢ 0 = eqb-false x 0 e in
+            rw (e, le-leb 1 x (omega arith), lt-ltb x (1 + sizeAt b (getD order 0 0)) (omega arith))
+
+    -- no row with a free cell in it: it is full in every solution
+    pub always-mined : empty (searchedFrom b order 0 (sizeAt b (getD order 0 0))) ≡ alwaysMined b (getD order 0 0)
+    always-mined = test-in-all b c positive order o 0 (sizeAt b (getD order 0 0)) (omega arith) (λ x. eqb x full) (λ x l. outside x l (decided (eqb x full)))
+      where
+        full : ℕ
+        full = getD (sizes b) (getD order 0 0) 0
+
+        outside : (x : ℕ) → x ≤ sizeAt b (getD order 0 0) → Decided (eqb x full) → eqb x full ≡ not (leb 0 x && ltb x (0 + sizeAt b (getD order 0 0)))
+        outside x l (inl e) =
+            rw (e, le-leb 0 x (omega arith), le-ltb x (0 + sizeAt b (getD order 0 0)) (omega (arith, eqb-true x full e, sizes-read b (getD order 0 0))))
+        outside x l (inr e) =
+            let d : x ≢ full = eqb-false x full e in
+            rw (e, le-leb 0 x (omega arith), lt-ltb x (0 + sizeAt b (getD order 0 0)) (omega (arith, sizes-read b (getD order 0 0))))
 
 -- ---- what is answered
 

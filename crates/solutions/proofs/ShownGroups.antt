@@ -24,21 +24,21 @@ use Rattle.blocks.specs.Blocks.{Block}
 use Rattle.blocks.specs.BlockSets.{slotCells}
 use Rattle.blocks.specs.Places.{Arrays, blockFrom, equationsFrom}
 use Rattle.blocks.specs.declared.Bounds.{Bounds}
-use Rattle.solutions.specs.declared.combine.Grouped.{Grouped}
-use Rattle.solutions.specs.Groups.{column, alike, addFirsts, firsts, groupOf, sizes}
-use Rattle.solutions.specs.Solutions.{solutions}
+use Rattle.groups.specs.declared.Grouped.{Grouped}
+use Rattle.groups.specs.Groups.{column, alike, addFirsts, firsts, groupOf, sizes}
+use Rattle.groups.specs.Grouping.{Combinable, grouped}
+use Rattle.groups.proofs.GroupLaws.{group-of-below, size-positive, firsts-some, column-below}
+use Rattle.search.specs.Solutions.{solutions}
+use Rattle.search.specs.Searching.{Ordered, State}
+use Rattle.search.proofs.Orders.{EachOnce}
+use Rattle.search.proofs.ReadingGroups.{groups-few, groups-read, columns-read, columns-long, sizes-read, grouped-ordered, grouped-state}
+use Rattle.search.proofs.ListedSolutions.{negative-none}
+use Rattle.orders.specs.Ordering.{Reach}
 use Rattle.solutions.specs.Enumeration.{neverMined, alwaysMined}
-use Rattle.solutions.specs.Grouping.{Combinable, grouped, shown}
-use Rattle.solutions.specs.Searching.{Ordered, State}
-use Rattle.solutions.specs.Ordering.{Reach}
-use Rattle.solutions.specs.Asking.{OverGroups, ShownOnly, Told, Stay}
+use Rattle.solutions.specs.Asking.{shown, OverGroups, ShownOnly, Told, Stay}
+use Rattle.solutions.proofs.NotedMarks.{only-none, only-whole}
 use Rattle.lists.proofs.PartedLists.{same-self}
 use Rattle.lists.proofs.StoredAndKept.{all-mapped}
-use Rattle.solutions.proofs.Orders.{EachOnce}
-use Rattle.solutions.proofs.ReadingGroups.{groups-few, groups-read, columns-read, columns-long, sizes-read, grouped-ordered, grouped-state}
-use Rattle.solutions.proofs.GroupLaws.{group-of-below, size-positive, firsts-some, column-below}
-use Rattle.solutions.proofs.ListedSolutions.{negative-none}
-use Rattle.solutions.proofs.NotedMarks.{only-none, only-whole}
 
 -- ---- the groups of a block
 

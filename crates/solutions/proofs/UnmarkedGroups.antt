@@ -12,7 +12,7 @@ use Rattle.lists.specs.Lists.{keep, joined}
 use Rattle.lists.proofs.Members.{range-more, range-none}
 use Rattle.lists.proofs.Storing.{Storing, storing-pass}
 use Rattle.lists.proofs.StoredAndKept.{keep-next, keep-pass, run-room, run-next, run-end}
-use Rattle.rules.specs.Marked.{cellsWith}
+use Rattle.marks.specs.Marked.{cellsWith}
 use Rattle.solutions.specs.Listing.{unmarkedGroups}
 
 module _ (groupOf marks cells : List ℕ) (first end groups : ℕ) where

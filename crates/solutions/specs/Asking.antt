@@ -6,11 +6,12 @@ use mathlib.Core.List.{List, map, List·Memᴰ}
 use Prim.Native.Nat.{ℕ, _≤_, _<_}
 use lib.Dec.{ltb}
 use lib.ListN.{length, getD, take}
-use Rattle.lists.specs.Lists.{empty}
+use Rattle.lists.specs.Lists.{empty, range, bit, pad}
 use Rattle.blocks.specs.Blocks.{Block}
-use Rattle.solutions.specs.Groups.{firsts}
+use Rattle.groups.specs.Groups.{firsts}
+use Rattle.groups.specs.Grouping.{Combinable, grouped}
 use Rattle.solutions.specs.Enumeration.{neverMined, alwaysMined}
-use Rattle.solutions.specs.Grouping.{Combinable, grouped}
+use Rattle.solutions.specs.declared.asking.Shown.{Shown}
 
 -- ---- what one solution shows, its values by group
 
@@ -68,3 +69,10 @@ pub record Told (b : Block) (mined unfilled : List ℕ) (g : ℕ) : Type 0 where
 -- no mark is taken away
 pub record Stay (before after : List ℕ) : Type 0 where
   pub at : (g : ℕ) → getD before g 0 ≡ 1 → getD after g 0 ≡ 1
+
+-- what its solutions show of each group: a mine in it, a free cell in it
+unfoldable pub shown : Block → Shown
+shown b = record {
+  mined = pad 1024 0 (map (λ (g : ℕ). bit (not (neverMined b g))) (range 0 (length (firsts b))));
+  unfilled = pad 1024 0 (map (λ (g : ℕ). bit (not (alwaysMined b g))) (range 0 (length (firsts b))));
+}

@@ -8,8 +8,8 @@ use lib.ListN.{length, getD}
 use Rattle.lists.specs.Lists.{range, keep, any, all, empty, joined}
 use Rattle.blocks.specs.Blocks.{Block}
 use Rattle.rules.specs.Found.{Found, contradicted, found}
-use Rattle.solutions.specs.Groups.{firsts, groups, sizes}
-use Rattle.solutions.specs.Solutions.{solutions}
+use Rattle.groups.specs.Groups.{firsts, groups, sizes}
+use Rattle.search.specs.Solutions.{solutions}
 
 -- the cells of the groups that pass a test, group after group
 abbrev pub cellsWhere : Block → (ℕ → Bool) → List ℕ

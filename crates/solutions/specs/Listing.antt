@@ -5,7 +5,7 @@ use Prim.Native.Nat.{ℕ, _-_}
 use lib.Dec.{eqb}
 use lib.ListN.{getD}
 use Rattle.lists.specs.Lists.{range, keep, joined}
-use Rattle.rules.specs.Marked.{cellsWith}
+use Rattle.marks.specs.Marked.{cellsWith}
 
 -- given each cell's group: the cells between two places of the groups from g on that are not marked
 unfoldable pub unmarkedGroups : List ℕ → List ℕ → List ℕ → ℕ → ℕ → ℕ → ℕ → List ℕ

@@ -5,7 +5,7 @@ use Prim.Native.Nat.{ℕ}
 use Rattle.fitting.specs.Passes.{Found, orElse}
 use Rattle.rules.specs.Found.{ruleOf}
 use Rattle.rules.specs.Direct.{direct}
-use Rattle.rules.specs.Minus.{subtraction}
+use Rattle.subtraction.specs.Minus.{subtraction}
 use Rattle.solutions.specs.Enumeration.{enumerated}
 
 abbrev pub threeRules : (ℕ → List ℕ) → List ℕ → Found

@@ -1,18 +1,18 @@
 // What the solutions of a block show of each group, without listing them: one solution with a mine in the group is looked for, then one in which it is not
 // full, groups ordered outward from it; each solution found answers for every group. What no solution shows is the same in all.
-use super::combine::Grouped;
-use super::order::outward;
-use super::search::spend_values;
 use blocks::Bounds;
 use grid::window::wide;
+use groups::Grouped;
+use orders::outward;
+use search::spend_values;
 ghost use mathlib.Core.Path.{_≡_};
 ghost use Prim.Native.Nat.{suc, _-_, _≤_, _<_};
 ghost use lib.ListN.{length, getD};
 ghost use Rattle.blocks.specs.Blocks.{Block};
 ghost use Rattle.blocks.specs.Places.{Arrays, blockFrom};
-ghost use Rattle.solutions.specs.Grouping.{Combinable, grouped as groupedOf, shown};
-ghost use Rattle.solutions.specs.Searching.{Ordered, State, treeFrom};
-ghost use Rattle.solutions.specs.Asking.{mineIn, freeIn, Noted, Answered, OverGroups, ShownOnly, Told, Stay};
+ghost use Rattle.groups.specs.Grouping.{Combinable, grouped as groupedOf};
+ghost use Rattle.search.specs.Searching.{Ordered, State, treeFrom};
+ghost use Rattle.solutions.specs.Asking.{shown, mineIn, freeIn, Noted, Answered, OverGroups, ShownOnly, Told, Stay};
 
 // For each group 1 where some solution has a mine in it, and 1 where some solution leaves a cell of it free; else 0.
 pub struct Shown {

@@ -1,12 +1,12 @@
 // solve_enumerate on a block set: the cells of the groups that no solution shows with a mine are safe, those of the groups that every solution fills are
 // mines. Lists go by block, then group, then the group's cells in the block's order. A block without a solution is the contradiction.
 use super::asking::shown_by;
-use super::combine::combine;
 use blocks::BlockSet;
 use blocks::Bounds;
 use blocks::bounds_at;
 use blocks::empty_set;
 use grid::window::wide;
+use groups::combine;
 use rules::answer::RuleAnswer;
 use rules::answer::contradiction;
 ghost use mathlib.Core.Path.{_≡_};
@@ -17,10 +17,10 @@ ghost use lib.Seq.{sets};
 ghost use Rattle.blocks.specs.Blocks.{Block};
 ghost use Rattle.blocks.specs.BlockSets.{blocksOf, Whole};
 ghost use Rattle.blocks.specs.Places.{Cells};
+ghost use Rattle.marks.specs.Marked.{cellsWith};
 ghost use Rattle.rules.specs.Answers.{ruleAnswer};
-ghost use Rattle.rules.specs.Marked.{cellsWith};
+ghost use Rattle.groups.specs.Grouping.{Combinable};
 ghost use Rattle.solutions.specs.Enumeration.{enumerated};
-ghost use Rattle.solutions.specs.Grouping.{Combinable};
 ghost use Rattle.solutions.specs.Listing.{unmarkedGroups};
 
 // The cells of a group, between two places, go to `out` from place `at` on.

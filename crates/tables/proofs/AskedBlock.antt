@@ -16,7 +16,7 @@ use Rattle.blocks.specs.declared.BlockSet.{BlockSet}
 use Rattle.blocks.proofs.Reading.{noBlock}
 use Rattle.blocks.proofs.Behind.{blocks-held}
 use Rattle.blocks.proofs.Standing.{block-in, arrays-in}
-use Rattle.solutions.specs.Grouping.{Combinable}
+use Rattle.groups.specs.Grouping.{Combinable}
 use Rattle.tables.specs.Tables.{tableSeen, tableOf, blockAsked}
 use Rattle.tables.specs.declared.TableAnswer.the-variants.{Refused}
 

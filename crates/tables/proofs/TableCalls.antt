@@ -26,12 +26,12 @@ use Rattle.blocks.specs.Blocks.{Block}
 use Rattle.blocks.proofs.Reading.{noBlock}
 use Rattle.frontier.specs.Frontier.{frontier}
 use Rattle.frontier.proofs.BlockLaws.{Proper, frontier-proper}
-use Rattle.solutions.specs.Groups.{firsts, sizes}
-use Rattle.solutions.specs.Solutions.{solves, weighed, solutions}
-use Rattle.solutions.proofs.Vectors.{withinSizes, inOrder}
-use Rattle.solutions.proofs.Orders.{readAt}
-use Rattle.solutions.proofs.ListedSolutions.{solutions-once, solutions-in-order}
-use Rattle.solutions.proofs.GroupRows.{SolutionRow, row-listed, listed-row}
+use Rattle.groups.specs.Groups.{firsts, sizes}
+use Rattle.search.specs.Solutions.{solves, weighed, solutions}
+use Rattle.search.proofs.Vectors.{withinSizes, inOrder}
+use Rattle.search.proofs.Orders.{readAt}
+use Rattle.search.proofs.ListedSolutions.{solutions-once, solutions-in-order}
+use Rattle.search.proofs.GroupRows.{SolutionRow, row-listed, listed-row}
 use Rattle.tables.specs.Tables.{TableSeen, tableSeen, refused, tableOf, blockAsked, calAllSolution}
 use Rattle.tables.specs.declared.TableAnswer.{TableAnswer}
 use Rattle.tables.specs.declared.TableAnswer.the-variants.{Refused, Listed}

@@ -17,14 +17,14 @@ use Rattle.lists.proofs.Joined.{map-ext}
 use Rattle.lists.proofs.Arrays.{length-pad, pad-take}
 use Rattle.blocks.specs.Blocks.{Block}
 use Rattle.blocks.specs.BlockSets.{before, slotCells}
-use Rattle.solutions.specs.Groups.{column, firsts}
-use Rattle.solutions.specs.Solutions.{byWeight, weighed}
-use Rattle.solutions.specs.Grouping.{Combinable, grouped}
-use Rattle.solutions.specs.Searching.{Ordered}
-use Rattle.solutions.proofs.Orders.{EachOnce}
-use Rattle.solutions.proofs.GroupLaws.{first-of-block, combinable-column, combinable-proper}
-use Rattle.solutions.proofs.ReadingGroups.{groups-read, equations-read, groups-few, columns-read, grouped-ordered}
-use Rattle.solutions.proofs.ListedSolutions.{weighed-each-once}
+use Rattle.groups.specs.Groups.{column, firsts}
+use Rattle.groups.specs.Grouping.{Combinable, grouped}
+use Rattle.groups.proofs.GroupLaws.{first-of-block, combinable-column, combinable-proper}
+use Rattle.search.specs.Solutions.{byWeight, weighed}
+use Rattle.search.specs.Searching.{Ordered}
+use Rattle.search.proofs.Orders.{EachOnce}
+use Rattle.search.proofs.ReadingGroups.{groups-read, equations-read, groups-few, columns-read, grouped-ordered}
+use Rattle.search.proofs.ListedSolutions.{weighed-each-once}
 
 -- ---- the first number in eight slots
 

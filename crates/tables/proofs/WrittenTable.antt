@@ -15,16 +15,16 @@ use Rattle.lists.specs.Lists.{joined, pad}
 use Rattle.lists.proofs.TurnedRound.{map-agree}
 use Rattle.refusals.specs.declared.Refusal.the-variants as refusal
 use Rattle.blocks.specs.Blocks.{Block}
-use Rattle.solutions.specs.Groups.{firsts}
-use Rattle.solutions.specs.Solutions.{byWeight, weighed, byGroup, solutions}
-use Rattle.solutions.specs.Grouping.{Combinable, grouped}
-use Rattle.solutions.specs.Searching.{Ordered, State, unset, treeAt, placed}
-use Rattle.solutions.specs.declared.combine.Grouped.{Grouped}
-use Rattle.solutions.proofs.Orders.{placed-by-group}
-use Rattle.solutions.proofs.GroupLaws.{firsts-some, combinable-proper}
-use Rattle.solutions.proofs.ReadingGroups.{groups-read, equations-read, groups-few, grouped-state}
-use Rattle.solutions.proofs.ListedSolutions.{negative-none, weighed-each-once}
-use Rattle.solutions.proofs.TreeSolutions.{searched, row-long, tree-solutions, tree-solutions-length}
+use Rattle.groups.specs.Groups.{firsts}
+use Rattle.groups.specs.Grouping.{Combinable, grouped}
+use Rattle.groups.specs.declared.Grouped.{Grouped}
+use Rattle.groups.proofs.GroupLaws.{firsts-some, combinable-proper}
+use Rattle.search.specs.Solutions.{byWeight, weighed, byGroup, solutions}
+use Rattle.search.specs.Searching.{Ordered, State, unset, treeAt, placed}
+use Rattle.search.proofs.Orders.{placed-by-group}
+use Rattle.search.proofs.ReadingGroups.{groups-read, equations-read, groups-few, grouped-state}
+use Rattle.search.proofs.ListedSolutions.{negative-none, weighed-each-once}
+use Rattle.search.proofs.TreeSolutions.{searched, row-long, tree-solutions, tree-solutions-length}
 use Rattle.tables.specs.Tables.{tableSeen, tableOf}
 use Rattle.tables.specs.declared.TableAnswer.the-variants.{Refused, Listed}
 use Rattle.tables.proofs.WeighedGroups.{weighed-by-columns, weighed-few, weighed-front, weighed-front-once, weighed-ordered}

@@ -15,8 +15,8 @@ use Rattle.refusals.specs.declared.Tested.the-variants as test
 use Rattle.refusals.specs.Tests.{positionTested}
 use Rattle.blocks.specs.Blocks.{Block}
 use Rattle.frontier.specs.Frontier.{frontier}
-use Rattle.solutions.specs.Groups.{firsts}
-use Rattle.solutions.specs.Solutions.{solutions}
+use Rattle.groups.specs.Groups.{firsts}
+use Rattle.search.specs.Solutions.{solutions}
 use Rattle.tables.specs.declared.TableAnswer.{TableAnswer}
 use Rattle.tables.specs.declared.TableAnswer.the-variants.{Refused, Listed}
 

@@ -21,7 +21,7 @@ use Rattle.fitting.proofs.Admitted.{tested-accepted}
 use Rattle.fitting.proofs.Passes.{rounds-cells, grade-bound}
 use Rattle.rules.specs.Found.{ruleOf}
 use Rattle.rules.specs.Direct.{direct}
-use Rattle.rules.specs.Minus.{subtraction}
+use Rattle.subtraction.specs.Minus.{subtraction}
 use Rattle.solutions.specs.ThreeRules.{threeRules}
 use Rattle.solutions.proofs.BoardRules.{board-rules-sound}
 use Rattle.verdict.specs.declared.Verdict.{Verdict}

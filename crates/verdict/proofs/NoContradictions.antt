@@ -21,8 +21,9 @@ use Rattle.fitting.proofs.Steps.{beginning}
 use Rattle.fitting.proofs.Passes.{begin-own, pass-own, passes-keep}
 use Rattle.frontier.specs.Frontier.{frontier}
 use Rattle.rules.specs.Direct.{direct}
-use Rattle.rules.specs.Minus.{subtraction}
-use Rattle.rules.proofs.Soundness.{direct-sound-at, subtraction-sound-at}
+use Rattle.rules.proofs.Soundness.{direct-sound-at}
+use Rattle.subtraction.specs.Minus.{subtraction}
+use Rattle.subtraction.proofs.Soundness.{subtraction-sound-at}
 use Rattle.solutions.specs.Enumeration.{enumerated}
 use Rattle.solutions.specs.ThreeRules.{threeRules}
 use Rattle.solutions.proofs.BoardRules.{neighbours-few-everywhere, board-rules-sound}

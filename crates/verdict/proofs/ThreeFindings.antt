@@ -34,19 +34,20 @@ use Rattle.frontier.specs.Equations.{plainEquations, equationArrays}
 use Rattle.frontier.specs.declared.equations.Equations.{Equations}
 use Rattle.frontier.proofs.Coverage.{frontier-small}
 use Rattle.frontier.proofs.EquationArrays.{arrays-slots, arrays-read, plain-small, plain-few}
+use Rattle.marks.specs.Marked.{Ready}
 use Rattle.rules.specs.Found.{Found, ruleOf}
 use Rattle.rules.specs.Direct.{sureMines, sureSafe, direct}
-use Rattle.rules.specs.Minus.{subtraction}
-use Rattle.rules.specs.Marked.{Ready}
-use Rattle.rules.specs.Answers.{ruleAnswer, listsOf, listsIn, sweptLists, minusLists}
+use Rattle.rules.specs.Answers.{ruleAnswer, listsOf, listsIn, sweptLists}
 use Rattle.rules.specs.declared.answer.Lists.{Lists}
 use Rattle.rules.proofs.DirectLaws.{sure-mines-once, sure-safe-once}
-use Rattle.rules.proofs.MinusLaws.{subtraction-contradiction}
-use Rattle.rules.proofs.Soundness.{SoundAt, listed-once, direct-sound-at, subtraction-sound-at}
-use Rattle.rules.proofs.Deductions.{listed-below}
+use Rattle.rules.proofs.Soundness.{SoundAt, listed-once, direct-sound-at, listed-below}
 use Rattle.rules.proofs.FrontierReady.{frontier-ready}
 use Rattle.rules.proofs.SweptEquations.{swept-mines, swept-safe}
-use Rattle.rules.proofs.SweptLeft.{subtraction-mines-swept, subtraction-safe-swept}
+use Rattle.subtraction.specs.Minus.{subtraction}
+use Rattle.subtraction.specs.Pairs.{minusLists}
+use Rattle.subtraction.proofs.MinusLaws.{subtraction-contradiction}
+use Rattle.subtraction.proofs.Soundness.{subtraction-sound-at}
+use Rattle.subtraction.proofs.SweptLeft.{subtraction-mines-swept, subtraction-safe-swept}
 use Rattle.solutions.specs.Enumeration.{enumerated}
 use Rattle.solutions.specs.ThreeRules.{threeRules}
 use Rattle.solutions.proofs.BoardRules.{neighbours-few-everywhere}

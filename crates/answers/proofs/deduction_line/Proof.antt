@@ -8,7 +8,7 @@ use lib.ListN.{length, take, drop, length-take, length-append}
 use lib.Seq.{take-at}
 use borrow.Author.Needs.{needs}
 use borrow.Author.Tests.{not-true, not-false}
-use Rattle.rules.specs.Answers.{seen}
+use Rattle.deductions.specs.Answers.{seen}
 use Rattle.answers.specs.Deductions.{calledOn, deductionText, deductionLine}
 use Rattle.answers.proofs.CellsSoFar.{line-fits}
 use Rattle.answers.proofs.ReadableAnswers.{called-printable}

@@ -7,8 +7,8 @@ use Rattle.refusals.specs.declared.Tested.the-variants.{Accepted}
 use Rattle.refusals.specs.Tests.{positionTested}
 use Rattle.refusals.proofs.Accepted.{AcceptedPosition, accepted-position}
 use Rattle.blocks.specs.Blocks.{Block}
-use Rattle.rules.proofs.FrontierReady.{read-whole, read-frontier}
-use Rattle.solutions.proofs.EnumerationCalls.{read-combinable}
+use Rattle.frontier.proofs.ReadFrontier.{read-whole, read-frontier}
+use Rattle.groups.proofs.FrontierBlocks.{read-combinable}
 use Rattle.tables.specs.Tables.{blockAsked, calAllSolution}
 use Rattle.tables.proofs.cal_all_solution.Statement.{statement}
 use Rattle.tables.proofs.cal_all_solution.Tie as tie

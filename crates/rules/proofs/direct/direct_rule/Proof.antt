@@ -8,14 +8,14 @@ use Rattle.blocks.specs.Blocks.{Block}
 use Rattle.blocks.specs.BlockSets.{allEquations, blockSet, blocksOf}
 use Rattle.chunks.specs.Chunks.{chunkMatrixes}
 use Rattle.rules.specs.Direct.{directLeft, negative}
-use Rattle.rules.specs.Marked.{Sweeps}
-use Rattle.blocks.proofs.Reading.{blocks-of-set}
+use Rattle.rules.specs.Answers.{Sweeps}
 use Rattle.rules.proofs.WholeSets.{few-blocks, few-equations, equations-of-all, slots-of-all, negative-of-all}
 use Rattle.rules.proofs.LeftByMarks.{left-of-all}
 use Rattle.rules.proofs.SmallerBlocks.{direct-fits}
 use Rattle.rules.proofs.DirectAnswer.{answer-contradicted, contradicted-whole, answer-found}
 use Rattle.rules.proofs.direct.direct_rule.Statement.{statement}
 use Rattle.rules.proofs.direct.direct_rule.Tie as tie
+use Rattle.blocks.proofs.Reading.{blocks-of-set}
 
 begin-at-requires : tie.Need-begin-at-requires
 begin-at-requires c κs = let s = c .before .before .before .before in few-blocks (s .args .t1) (s .pre .0)

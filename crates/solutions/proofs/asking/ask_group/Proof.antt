@@ -7,8 +7,8 @@ use mathlib.Core.Logic.{⊎-elim}
 use native.Mathlib.Omega.{arith}
 use lib.ListN.{getD}
 use borrow.Author.Needs.{needs}
-use Rattle.solutions.specs.Searching.{treeFrom}
-use Rattle.solutions.proofs.OrderedGroups.{group-at, group-place, group-small}
+use Rattle.search.specs.Searching.{treeFrom}
+use Rattle.search.proofs.OrderedGroups.{group-at, group-place, group-small}
 use Rattle.solutions.proofs.NotedMarks.{stay-twice}
 use Rattle.solutions.proofs.SearchAnswers.{Question, question-asked, question-known, question-stay, question-whole, group-told}
 use Rattle.solutions.proofs.asking.ask_group.Statement.{statement}

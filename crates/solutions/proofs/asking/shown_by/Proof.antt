@@ -10,8 +10,8 @@ use borrow.Author.Needs.{needs}
 use Rattle.lists.specs.Lists.{all}
 use Rattle.blocks.specs.Blocks.{Block}
 use Rattle.blocks.specs.Places.{blockFrom}
-use Rattle.solutions.specs.declared.combine.Grouped.{Grouped}
-use Rattle.solutions.specs.Grouping.{grouped}
+use Rattle.groups.specs.declared.Grouped.{Grouped}
+use Rattle.groups.specs.Grouping.{grouped}
 use Rattle.solutions.specs.Asking.{OverGroups, ShownOnly}
 use Rattle.solutions.proofs.ShownGroups.{groups-of-below, columns-reach, shown-start, shown-whole, shown-negative, over-grouped, over-groups, over-few, over-columns, over-some, over-ordered, over-state, Telling, telling-start, telling-known, telling-asked}
 use Rattle.solutions.proofs.asking.shown_by.Statement.{statement}

@@ -8,12 +8,12 @@ use native.Mathlib.Omega.{arith}
 use lib.ListN.{set}
 use borrow.Author.Tests.{eq-eqb, ne-eqb}
 use Rattle.lists.proofs.Storing.{Storing, storing-start, storing-room, storing-next, storing-pass, single-store}
-use Rattle.rules.specs.Marked.{cellsWith}
-use Rattle.lists.proofs.StoredAndKept.{run-end}
-use Rattle.rules.proofs.ByMarks.{listed-kept, listed-passed, listed-none}
-use borrow.Author.Needs.{needs}
+use Rattle.marks.specs.Marked.{cellsWith}
+use Rattle.marks.proofs.ByMarks.{listed-kept, listed-passed, listed-none}
 use Rattle.solutions.proofs.enumerate.list_group.Statement.{statement}
 use Rattle.solutions.proofs.enumerate.list_group.Tie as tie
+use Rattle.lists.proofs.StoredAndKept.{run-end}
+use borrow.Author.Needs.{needs}
 
 abbrev Inv-loop : tie.InvT-loop
 Inv-loop cells first end group-of group out₀ at k₀ i₀ out k i = Storing 1024 1 (λ (x : ℕ). x ∷ []) out₀ at (cellsWith group-of group cells first end) out k (cellsWith group-of group cells i end)

@@ -1,0 +1,106 @@
+-- What a caller of solve_enumerate has, from what the call ensures alone. It is sound, as the calls of the two other rules are: what it lists is so in every layout that
+-- fits the position, and it marks just that. And it is complete: where the tests pass and some layout fits, it is accepted, and each closed cell that touches an
+-- open one and is the same in every layout that fits stands on the right list. Rests on SoundCalls and on Completeness of the crate solutions. Assumes nothing.
+use mathlib.Core.Path.{_≡_, ap, _∙_}
+use mathlib.Core.Bool.{Bool, true, false}
+use mathlib.Core.List.{List}
+use Prim.Native.Nat.{ℕ, _≤_, _<_}
+use native.Mathlib.Omega.{arith}
+use lib.ListN.{length, getD}
+use lib.Seq.{sets}
+use Rattle.lists.specs.Lists.{has}
+use Rattle.lists.proofs.ReadBack.{front-read}
+use Rattle.lists.proofs.Unions.{has-mem}
+use Rattle.grid.specs.Cells.{shows}
+use Rattle.grid.specs.Window.{neighbours}
+use Rattle.grid.proofs.Neighbours.{neighbours-nodup}
+use Rattle.refusals.specs.declared.Tested.the-variants.{Accepted}
+use Rattle.refusals.specs.Tests.{deductionTested}
+use Rattle.refusals.proofs.Accepted.{AcceptedDeduction, accepted-deduction}
+use Rattle.fitting.specs.Layouts.{Fits, Forced}
+use Rattle.frontier.specs.Frontier.{frontier}
+use Rattle.rules.specs.Found.{Found}
+use Rattle.rules.proofs.Soundness.{SoundAt, listed-few}
+use Rattle.solutions.specs.Enumeration.{enumerated}
+use Rattle.solutions.proofs.Completeness.{CompleteAt, enumeration-sound-at, enumeration-complete-at}
+use Rattle.solutions.proofs.BoardRules.{neighbours-few-everywhere}
+use Rattle.deductions.specs.Answers.{Seen, seen, afterFound, solveEnumerate}
+use Rattle.deductions.specs.declared.answer.DeductionAnswer.{DeductionAnswer}
+use Rattle.deductions.proofs.Handed.{after-lists}
+use Rattle.deductions.proofs.SoundCalls.{SoundCall, call-sound}
+use Rattle.lists.proofs.PlacesAndRanges.{mem-place}
+
+-- ---- enumeration on a board
+
+module _ (rows columns : ℕ) (p : List ℕ) where
+  -- it is sound there
+  pub enumeration-sound-on : SoundAt (neighbours rows columns) p (enumerated (frontier (neighbours rows columns) p))
+  enumeration-sound-on = enumeration-sound-at (neighbours rows columns) (neighbours-nodup rows columns) (neighbours-few-everywhere rows columns) p
+
+  -- and complete, where some layout fits
+  enumeration-complete-on : (layout : List Bool) → Fits (neighbours rows columns) p layout
+      → CompleteAt (neighbours rows columns) p (enumerated (frontier (neighbours rows columns) p))
+  enumeration-complete-on = enumeration-complete-at (neighbours rows columns) (neighbours-nodup rows columns) (neighbours-few-everywhere rows columns) p
+
+-- ---- what a complete call tells: p is the position that was lent, r the answer, s′ and m′ are the lent lists after the call
+
+-- a cell is one of the first n entries
+abbrev pub AmongFirst : ℕ → List ℕ → ℕ → Type 0
+AmongFirst n l c = (i : ℕ) × (i < n) × (getD l i 0 ≡ c)
+
+-- it is accepted, and counts in its lists each closed cell beside an open one that is free, or a mine, in every layout that fits
+pub record CompleteCall (near : ℕ → List ℕ) (p : List ℕ) (r : DeductionAnswer) (s′ m′ : List ℕ) : Type 0 where
+  pub is-accepted : r .tested ≡ Accepted
+  pub safe-found : (c d : ℕ) → shows p c ≡ 10 → shows p d ≤ 8 → has (near d) c ≡ true → Forced near p c false → AmongFirst (r .safe) s′ c
+  pub mines-found : (c d : ℕ) → shows p c ≡ 10 → shows p d ≤ 8 → has (near d) c ≡ true → Forced near p c true → AmongFirst (r .mines) m′ c
+
+-- ---- one list
+
+-- a list is stored at the front of what was lent, and n counts it: each of its cells is one of the first n entries
+stored-among : (l lent after : List ℕ) (n : ℕ) → length l ≤ length lent → n ≡ length l → after ≡ sets lent 0 l → (c : ℕ) → has l c ≡ true → AmongFirst n after c
+stored-among l lent after n room counted stored c h =
+    let (i, within, is) = mem-place l 0 (has-mem l c h) in
+    (i, omega arith, rw stored (front-read lent l room i 0 within ∙ is))
+
+-- ---- the call
+
+module _ (rows columns : ℕ) (p s m : List ℕ) (r : DeductionAnswer) (p′ s′ m′ : List ℕ) (call : seen r p′ s′ m′ ≡ solveEnumerate rows columns p s m) where
+  -- it is sound
+  pub enumerate-call-sound : SoundCall rows columns p s m r p′ s′ m′
+  unfolding solveEnumerate
+  enumerate-call-sound = call-sound enumerated rows columns p s m r p′ s′ m′ (λ _. enumeration-sound-on rows columns p) call
+
+  module _ (tests : deductionTested rows columns p (length s) (length m) ≡ Accepted) (layout : List Bool) (fit : Fits (neighbours rows columns) p layout) where
+    abbrev found : Found
+    found = enumerated (frontier (neighbours rows columns) p)
+
+    accepted : AcceptedDeduction rows columns p (length s) (length m)
+    accepted = accepted-deduction rows columns p (length s) (length m) tests
+
+    safe-fits : length (found .safe) ≤ length s
+    safe-fits =
+        omega (arith, listed-few (neighbours rows columns) p (found .safe) (enumeration-sound-on rows columns p .safe-among), accepted .position .board .whole, accepted .safe-room)
+
+    mines-fit : length (found .mines) ≤ length m
+    mines-fit =
+        omega (arith, listed-few (neighbours rows columns) p (found .mines) (enumeration-sound-on rows columns p .mines-among), accepted .position .board .whole, accepted .mines-room)
+
+    -- what the caller sees is what enumeration finds
+    sees-found : seen r p′ s′ m′ ≡ afterFound found p s m
+    unfolding solveEnumerate
+    sees-found = rw tests at call
+
+    -- and complete
+    pub enumerate-call-complete : CompleteCall (neighbours rows columns) p r s′ m′
+    enumerate-call-complete =
+        let whole = enumeration-complete-on rows columns p layout fit in
+        let told = sees-found ∙ after-lists found p s m (enumeration-sound-on rows columns p .no-contradiction layout fit) in
+        record {
+          is-accepted = ap (λ (v : Seen). v .answer .tested) told;
+          safe-found = λ c d closed is-open beside free.
+              stored-among (found .safe) s s′ (r .safe) safe-fits (ap (λ (v : Seen). v .answer .safe) told) (ap (λ (v : Seen). v .safe) told) c
+              (whole .safe-found c d closed is-open beside free);
+          mines-found = λ c d closed is-open beside mined.
+              stored-among (found .mines) m m′ (r .mines) mines-fit (ap (λ (v : Seen). v .answer .mines) told) (ap (λ (v : Seen). v .mines) told) c
+              (whole .mines-found c d closed is-open beside mined);
+        }

@@ -1,0 +1,10 @@
+-- The laws of the calls on a position, in reading order.
+-- what a call is told, what it hands on and what it writes
+pub mod Handed
+pub mod WrittenCells
+pub mod Deductions
+-- what a caller has: the lists are true, and enumeration's are complete
+pub mod SoundCalls
+pub mod EnumerationCalls
+-- what is answered can be read: counts are within the lists, and blocks fit
+pub mod ReadableCalls

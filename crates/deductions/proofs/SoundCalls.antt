@@ -1,0 +1,312 @@
+-- What a caller of solve_direct and of solve_minus has, from what the calls ensure alone. An accepted call lists cells that were closed, of which the safe ones
+-- have no mine in any layout that fits the position and the others are mines in each; it marks just these, and keeps every other byte. A refused call
+-- keeps all. Where the tests pass and some layout fits, the call is accepted. Rests on Soundness of the crate rules and on the laws of what is written. Assumes nothing.
+use mathlib.Core.Path.{_≡_, refl, sym, ap, _∙_}
+use mathlib.Core.Logic.{inl, inr}
+use mathlib.Core.Bool.{Bool, true, false}
+use mathlib.Core.List.{List}
+use Prim.Native.Nat.{ℕ, _≤_, _<_}
+use native.Mathlib.Omega.{arith}
+use lib.ListN.{length, getD, take}
+use lib.Seq.{sets, length-sets}
+use Rattle.lists.specs.Lists.{has, nodup}
+use Rattle.lists.proofs.Tests.{Decided, decided, clash}
+use Rattle.lists.proofs.Members.{getD-has}
+use Rattle.grid.specs.Cells.{shows}
+use Rattle.grid.specs.Window.{neighbours}
+use Rattle.refusals.specs.declared.Refusal.{Refusal}
+use Rattle.refusals.specs.declared.Refusal.the-variants.{Contradiction}
+use Rattle.refusals.specs.declared.Tested.{Tested}
+use Rattle.refusals.specs.declared.Tested.the-variants.{Accepted, Refused}
+use Rattle.refusals.specs.Tests.{deductionTested}
+use Rattle.refusals.proofs.FirstFailure.{not-both}
+use Rattle.refusals.proofs.Accepted.{AcceptedDeduction, accepted-deduction}
+use Rattle.fitting.specs.Layouts.{Fits, Forced}
+use Rattle.fitting.proofs.Layouts.{on-board}
+use Rattle.blocks.specs.Blocks.{Block}
+use Rattle.blocks.specs.BlockSets.{allCells}
+use Rattle.frontier.specs.Frontier.{frontier}
+use Rattle.rules.specs.Found.{Found}
+use Rattle.rules.specs.Direct.{direct}
+use Rattle.rules.proofs.Soundness.{SoundAt, listed-closed, listed-once, listed-few, listed-apart}
+use Rattle.subtraction.specs.Minus.{subtraction}
+use Rattle.deductions.specs.Answers.{Seen, seen, written, refusedAnswer, afterTests, deduction, solveDirect, solveMinus}
+use Rattle.deductions.specs.declared.answer.DeductionAnswer.{DeductionAnswer}
+use Rattle.deductions.proofs.WrittenCells.{written-length, written-shows, written-elsewhere}
+use Rattle.deductions.proofs.Handed.{after-contradiction, after-lists}
+use Rattle.deductions.proofs.Deductions.{direct-sound-on, subtraction-sound-on}
+use Rattle.lists.proofs.Among.{Among}
+use Rattle.lists.proofs.ReadBack.{front-taken, front-read, front-kept}
+
+-- ---- what a call may tell: p, s and m are what was lent, r is the answer, p′, s′ and m′ are what is lent after the call
+
+-- the cells that the answer counts in the two lists: they were closed, none stands twice, and they are what their list says in every layout that fits
+pub record ListsTrue (near : ℕ → List ℕ) (p : List ℕ) (r : DeductionAnswer) (s′ m′ : List ℕ) : Type 0 where
+  pub safe-closed : (i : ℕ) → i < r .safe → shows p (getD s′ i 0) ≡ 10
+  pub safe-free : (i : ℕ) → i < r .safe → Forced near p (getD s′ i 0) false
+  pub safe-once : nodup (take (r .safe) s′) ≡ true
+  pub mines-closed : (i : ℕ) → i < r .mines → shows p (getD m′ i 0) ≡ 10
+  pub mines-mined : (i : ℕ) → i < r .mines → Forced near p (getD m′ i 0) true
+  pub mines-once : nodup (take (r .mines) m′) ≡ true
+
+-- the position shows 11 at the listed mines, 12 at the listed safe cells, but 11 at those that are in both lists, and what it showed elsewhere; entries
+-- past the counts are as they were
+pub record OnlyMarked (p s m : List ℕ) (r : DeductionAnswer) (p′ s′ m′ : List ℕ) : Type 0 where
+  pub at-mines : (i : ℕ) → i < r .mines → shows p′ (getD m′ i 0) ≡ 11
+  pub at-safe : (i : ℕ) → i < r .safe → has (take (r .mines) m′) (getD s′ i 0) ≡ false → shows p′ (getD s′ i 0) ≡ 12
+  pub elsewhere : (c : ℕ) → has (take (r .safe) s′) c ≡ false → has (take (r .mines) m′) c ≡ false → shows p′ c ≡ shows p c
+  pub position-length : length p′ ≡ length p
+  pub safe-kept : (i : ℕ) → r .safe ≤ i → getD s′ i 0 ≡ getD s i 0
+  pub safe-length : length s′ ≡ length s
+  pub mines-kept : (i : ℕ) → r .mines ≤ i → getD m′ i 0 ≡ getD m i 0
+  pub mines-length : length m′ ≡ length m
+
+-- the refusal's name alone; every lent byte is as it was
+pub record AllKept (p s m : List ℕ) (x : Refusal) (r : DeductionAnswer) (p′ s′ m′ : List ℕ) : Type 0 where
+  pub name-alone : r ≡ refusedAnswer x
+  pub position-kept : p′ ≡ p
+  pub safe-kept : s′ ≡ s
+  pub mines-kept : m′ ≡ m
+
+-- all that a caller has of a call on a board of so many rows and columns
+pub record SoundCall (rows columns : ℕ) (p s m : List ℕ) (r : DeductionAnswer) (p′ s′ m′ : List ℕ) : Type 0 where
+  -- what an accepted call lists is true
+  pub lists-true : r .tested ≡ Accepted → ListsTrue (neighbours rows columns) p r s′ m′
+  -- and it marks only that
+  pub only-marked : r .tested ≡ Accepted → OnlyMarked p s m r p′ s′ m′
+  -- where some layout fits no cell is in both lists, so that each listed safe cell shows 12
+  pub at-safe : r .tested ≡ Accepted → (layout : List Bool) → Fits (neighbours rows columns) p layout → (i : ℕ) → i < r .safe → shows p′ (getD s′ i 0) ≡ 12
+  -- a refused call keeps all
+  pub all-kept : (x : Refusal) → r .tested ≡ Refused x → AllKept p s m x r p′ s′ m′
+  -- a refusal by the tests is the call's
+  pub refuses : (x : Refusal) → deductionTested rows columns p (length s) (length m) ≡ Refused x → r .tested ≡ Refused x
+  -- where the tests pass and some layout fits, the call is accepted
+  pub accepts : deductionTested rows columns p (length s) (length m) ≡ Accepted → (layout : List Bool) → Fits (neighbours rows columns) p layout → r .tested ≡ Accepted
+
+-- ---- one list
+
+-- cells of the frontier stand at the front of what was lent, and n counts them
+record AtFront (near : ℕ → List ℕ) (p l lent after : List ℕ) (n : ℕ) : Type 0 where
+  pub among : Among l (allCells (frontier near p))
+  pub room : length p ≤ length lent
+  pub counted : n ≡ length l
+  pub stored : after ≡ sets lent 0 l
+
+module _ {near : ℕ → List ℕ} {p l lent after : List ℕ} {n : ℕ} (a : AtFront near p l lent after n) where
+  fits : length l ≤ length lent
+  fits = omega (arith, a .room, listed-few near p l (a .among))
+
+  -- the first n are the list
+  front-list : take n after ≡ l
+  front-list = rw (a .counted, a .stored) (front-taken lent l fits)
+
+  -- so each of them is a cell of it
+  front-has : (i : ℕ) → i < n → has l (getD after i 0) ≡ true
+  front-has i h =
+      let within : i < length l = omega (arith, a .counted) in
+      rw (a .stored, front-read lent l fits i 0 within) (getD-has l i 0 within)
+
+  -- which was closed
+  front-closed : (i : ℕ) → i < n → shows p (getD after i 0) ≡ 10
+  front-closed i h = listed-closed near p l (a .among) (getD after i 0) (front-has i h)
+
+  -- and so is on the board
+  front-on-board : (i : ℕ) → i < n → getD after i 0 < length p
+  front-on-board i h = on-board p (getD after i 0) (omega (arith, front-closed i h))
+
+  -- none stands twice
+  front-once : nodup (take n after) ≡ true
+  front-once = rw front-list (listed-once near p l (a .among))
+
+  -- and behind them stands what stood there
+  behind-kept : (i : ℕ) → n ≤ i → getD after i 0 ≡ getD lent i 0
+  behind-kept i h = rw (a .stored) (front-kept lent l fits i 0 (omega (arith, a .counted)))
+
+  -- in as many entries
+  front-length : length after ≡ length lent
+  front-length = ap length (a .stored) ∙ length-sets lent 0 l
+
+-- ---- what the equation of a call says
+
+-- the rule met no contradiction, and its lists are handed on
+record Gave (f : Found) (p s m : List ℕ) (r : DeductionAnswer) (p′ s′ m′ : List ℕ) : Type 0 where
+  pub no-contradiction : f .contradiction ≡ false
+  pub safe-count : r .safe ≡ length (f .safe)
+  pub mine-count : r .mines ≡ length (f .mines)
+  pub safe-list : s′ ≡ sets s 0 (f .safe)
+  pub mine-list : m′ ≡ sets m 0 (f .mines)
+  pub position : p′ ≡ written 11 (f .mines) (written 12 (f .safe) p)
+
+module _ (f : Found) (p s m : List ℕ) (r : DeductionAnswer) (p′ s′ m′ : List ℕ) where
+  -- it is accepted only where the tests accept and the rule meets no contradiction
+  gave : (t : Tested) → seen r p′ s′ m′ ≡ afterTests t f p s m → r .tested ≡ Accepted → (t ≡ Accepted) × Gave f p s m r p′ s′ m′
+  unfolding refusedAnswer
+  gave (Refused x) e a = not-both (r .tested) x a (ap (λ (v : Seen). v .answer .tested) e)
+  gave Accepted e a = (refl, go (decided (f .contradiction)))
+    where
+      go : Decided (f .contradiction) → Gave f p s m r p′ s′ m′
+      go (inl k) = not-both (r .tested) Contradiction a (ap (λ (v : Seen). v .answer .tested) (e ∙ after-contradiction f p s m k))
+      go (inr k) =
+          let told = e ∙ after-lists f p s m k in
+          record {
+            no-contradiction = k;
+            safe-count = ap (λ (v : Seen). v .answer .safe) told;
+            mine-count = ap (λ (v : Seen). v .answer .mines) told;
+            safe-list = ap (λ (v : Seen). v .safe) told;
+            mine-list = ap (λ (v : Seen). v .mines) told;
+            position = ap (λ (v : Seen). v .position) told;
+          }
+
+  -- a refusal leaves the slices as they were
+  kept : (x : Refusal) → seen r p′ s′ m′ ≡ seen (refusedAnswer x) p s m → AllKept p s m x r p′ s′ m′
+  kept x e = record {
+    name-alone = ap (λ (v : Seen). v .answer) e;
+    position-kept = ap (λ (v : Seen). v .position) e;
+    safe-kept = ap (λ (v : Seen). v .safe) e;
+    mines-kept = ap (λ (v : Seen). v .mines) e;
+  }
+
+  -- whichever it is
+  refused-kept : (t : Tested) → seen r p′ s′ m′ ≡ afterTests t f p s m → (x : Refusal) → r .tested ≡ Refused x → AllKept p s m x r p′ s′ m′
+  unfolding refusedAnswer
+  refused-kept (Refused y) e x a =
+      let same : Refused x ≡ Refused y = sym a ∙ ap (λ (v : Seen). v .answer .tested) e in
+      let is : y ≡ x = cc in
+      kept x (rw is at e)
+  refused-kept Accepted e x a = go (decided (f .contradiction))
+    where
+      go : Decided (f .contradiction) → AllKept p s m x r p′ s′ m′
+      go (inl k) =
+          let told = e ∙ after-contradiction f p s m k in
+          let same : Refused x ≡ Refused Contradiction = sym a ∙ ap (λ (v : Seen). v .answer .tested) told in
+          let is : Contradiction ≡ x = cc in
+          kept x (rw is at told)
+      go (inr k) = not-both (r .tested) x (ap (λ (v : Seen). v .answer .tested) (e ∙ after-lists f p s m k)) a
+
+  -- the tests' refusal is the call's
+  refused-by-tests : (t : Tested) → seen r p′ s′ m′ ≡ afterTests t f p s m → (x : Refusal) → t ≡ Refused x → r .tested ≡ Refused x
+  unfolding refusedAnswer
+  refused-by-tests (Refused y) e x a = ap (λ (v : Seen). v .answer .tested) e ∙ a
+  refused-by-tests Accepted e x a = not-both Accepted x refl a
+
+  -- and it is accepted where the tests accept and the rule meets no contradiction
+  accepted : (t : Tested) → seen r p′ s′ m′ ≡ afterTests t f p s m → t ≡ Accepted → f .contradiction ≡ false → r .tested ≡ Accepted
+  accepted (Refused x) e a k = not-both (Refused x) x a refl
+  accepted Accepted e a k = ap (λ (v : Seen). v .answer .tested) (e ∙ after-lists f p s m k)
+
+-- ---- an accepted call of a rule that is sound
+
+module _ (near : ℕ → List ℕ) (f : Found) (p s m : List ℕ) (r : DeductionAnswer) (p′ s′ m′ : List ℕ)
+    (sound : SoundAt near p f) (safe-room : length p ≤ length s) (mines-room : length p ≤ length m) (g : Gave f p s m r p′ s′ m′) where
+  -- where its lists stand
+  safe-front : AtFront near p (f .safe) s s′ (r .safe)
+  safe-front = record { among = sound .safe-among; room = safe-room; counted = g .safe-count; stored = g .safe-list }
+
+  mines-front : AtFront near p (f .mines) m m′ (r .mines)
+  mines-front = record { among = sound .mines-among; room = mines-room; counted = g .mine-count; stored = g .mine-list }
+
+  -- they are true
+  lists-are-true : ListsTrue near p r s′ m′
+  lists-are-true = record {
+    safe-closed = front-closed safe-front;
+    safe-free = λ i h. sound .safe-free (getD s′ i 0) (front-has safe-front i h);
+    safe-once = front-once safe-front;
+    mines-closed = front-closed mines-front;
+    mines-mined = λ i h. sound .mines-mined (getD m′ i 0) (front-has mines-front i h);
+    mines-once = front-once mines-front;
+  }
+
+  -- the position with its safe cells marked
+  abbrev safeMarked : List ℕ
+  safeMarked = written 12 (f .safe) p
+
+  -- a listed mine shows 11
+  shows-mine : (i : ℕ) → i < r .mines → shows p′ (getD m′ i 0) ≡ 11
+  shows-mine i h =
+      rw (g .position)
+      (written-shows 11 (f .mines) safeMarked (getD m′ i 0) (omega (arith, front-on-board mines-front i h, written-length 12 (f .safe) p)) (front-has mines-front i h))
+
+  -- a listed safe cell that is none of the mines shows 12
+  shows-safe : (i : ℕ) → i < r .safe → has (f .mines) (getD s′ i 0) ≡ false → shows p′ (getD s′ i 0) ≡ 12
+  shows-safe i h n =
+      let c = getD s′ i 0 in
+      rw (g .position) (written-elsewhere 11 (f .mines) safeMarked c n ∙ written-shows 12 (f .safe) p c (front-on-board safe-front i h) (front-has safe-front i h))
+
+  -- any other cell shows what it showed
+  shows-same : (c : ℕ) → has (f .safe) c ≡ false → has (f .mines) c ≡ false → shows p′ c ≡ shows p c
+  shows-same c e n = rw (g .position) (written-elsewhere 11 (f .mines) safeMarked c n ∙ written-elsewhere 12 (f .safe) p c e)
+
+  -- it marks only what it lists
+  marks-only : OnlyMarked p s m r p′ s′ m′
+  marks-only = record {
+    at-mines = shows-mine;
+    at-safe = λ i h n. shows-safe i h (rw (front-list mines-front) at n);
+    elsewhere = λ c e n. shows-same c (rw (front-list safe-front) at e) (rw (front-list mines-front) at n);
+    position-length = ap length (g .position) ∙ written-length 11 (f .mines) safeMarked ∙ written-length 12 (f .safe) p;
+    safe-kept = behind-kept safe-front;
+    safe-length = front-length safe-front;
+    mines-kept = behind-kept mines-front;
+    mines-length = front-length mines-front;
+  }
+
+  -- and where some layout fits, each listed safe cell shows 12
+  fitting-shows-safe : (layout : List Bool) → Fits near p layout → (i : ℕ) → i < r .safe → shows p′ (getD s′ i 0) ≡ 12
+  fitting-shows-safe layout fit i h = shows-safe i h (apart (decided (has (f .mines) (getD s′ i 0))))
+    where
+      apart : Decided (has (f .mines) (getD s′ i 0)) → has (f .mines) (getD s′ i 0) ≡ false
+      apart (inl e) = clash (has (f .safe) (getD s′ i 0)) (front-has safe-front i h) (listed-apart near p f sound layout fit (getD s′ i 0) e)
+      apart (inr e) = e
+
+-- ---- a call of any rule that is sound at the position
+
+module _ (rule : List Block → Found) (rows columns : ℕ) (p s m : List ℕ) (r : DeductionAnswer) (p′ s′ m′ : List ℕ)
+    (sound : 1 ≤ columns → SoundAt (neighbours rows columns) p (rule (frontier (neighbours rows columns) p)))
+    (call : seen r p′ s′ m′ ≡ deduction rule rows columns p s m) where
+  abbrev near : ℕ → List ℕ
+  near = neighbours rows columns
+
+  abbrev tests : Tested
+  tests = deductionTested rows columns p (length s) (length m)
+
+  -- what it is to be accepted
+  module _ (a : r .tested ≡ Accepted) where
+    facts : AcceptedDeduction rows columns p (length s) (length m)
+    facts = accepted-deduction rows columns p (length s) (length m) (gave (rule (frontier near p)) p s m r p′ s′ m′ tests call a .0)
+
+    lists : Gave (rule (frontier near p)) p s m r p′ s′ m′
+    lists = gave (rule (frontier near p)) p s m r p′ s′ m′ tests call a .1
+
+    sound-here : SoundAt near p (rule (frontier near p))
+    sound-here = sound (facts .position .some-columns)
+
+    safe-room : length p ≤ length s
+    safe-room = omega (arith, facts .position .board .whole, facts .safe-room)
+
+    mines-room : length p ≤ length m
+    mines-room = omega (arith, facts .position .board .whole, facts .mines-room)
+
+  pub call-sound : SoundCall rows columns p s m r p′ s′ m′
+  call-sound =
+      let f = rule (frontier near p) in
+      record {
+        lists-true = λ a. lists-are-true near f p s m r p′ s′ m′ (sound-here a) (safe-room a) (mines-room a) (lists a);
+        only-marked = λ a. marks-only near f p s m r p′ s′ m′ (sound-here a) (safe-room a) (mines-room a) (lists a);
+        at-safe = λ a. fitting-shows-safe near f p s m r p′ s′ m′ (sound-here a) (safe-room a) (mines-room a) (lists a);
+        all-kept = refused-kept f p s m r p′ s′ m′ tests call;
+        refuses = refused-by-tests f p s m r p′ s′ m′ tests call;
+        accepts = λ t layout fit. accepted f p s m r p′ s′ m′ tests call t
+            (sound (accepted-deduction rows columns p (length s) (length m) t .position .some-columns) .no-contradiction layout fit);
+      }
+
+-- ---- the two calls
+
+module _ (rows columns : ℕ) (p s m : List ℕ) (r : DeductionAnswer) (p′ s′ m′ : List ℕ) where
+  -- solve_direct
+  pub direct-call-sound : seen r p′ s′ m′ ≡ solveDirect rows columns p s m → SoundCall rows columns p s m r p′ s′ m′
+  unfolding solveDirect
+  direct-call-sound e = call-sound direct rows columns p s m r p′ s′ m′ (direct-sound-on rows columns p) e
+
+  -- solve_minus
+  pub minus-call-sound : seen r p′ s′ m′ ≡ solveMinus rows columns p s m → SoundCall rows columns p s m r p′ s′ m′
+  unfolding solveMinus
+  minus-call-sound e = call-sound subtraction rows columns p s m r p′ s′ m′ (subtraction-sound-on rows columns p) e

@@ -1,0 +1,13 @@
+-- `answer::told` meets its contract: refusal 6 where there is a contradiction. Assumes nothing.
+use borrow.Author.Needs.{needs}
+use Rattle.deductions.proofs.answer.told.Statement.{statement}
+use Rattle.deductions.proofs.answer.told.Tie as tie
+
+returns : tie.Need-returns
+returns c = rw (c .if1 .taken)
+
+returns-2 : tie.Need-returns-2
+returns-2 c = search needs
+
+pub told-spec : {M : Type 1} → statement M
+told-spec = tie.close (tie.spec returns returns-2)

@@ -1,0 +1,105 @@
+-- `solve_minus` meets its contract: a refusal by the tests ends the call; else the frontier is read, the subtraction rule runs on it and its answer is handed to the
+-- caller. Rests on Deductions and on the contracts of the calls. Assumes nothing.
+use mathlib.Core.Path.{_≡_, sym, _∙_}
+use borrow.Author.Needs.{needs}
+use lib.ListN.{length}
+use Rattle.refusals.specs.declared.Tested.the-variants.{Accepted}
+use Rattle.refusals.specs.Tests.{deductionTested}
+use Rattle.refusals.proofs.Accepted.{AcceptedDeduction, accepted-deduction}
+use Rattle.frontier.proofs.ReadFrontier.{read-whole}
+use Rattle.rules.proofs.FrontierReady.{read-ready}
+use Rattle.subtraction.specs.Minus.{subtraction}
+use Rattle.deductions.specs.Answers.{solveMinus}
+use Rattle.deductions.proofs.Deductions.{subtraction-sound-on, tests-refuse, rule-held, rule-seen}
+use Rattle.deductions.proofs.solve_minus.Statement.{statement}
+use Rattle.deductions.proofs.solve_minus.Tie as tie
+
+test-deduction-requires : tie.Need-test-deduction-requires
+test-deduction-requires c κs = search needs
+
+enum-told : tie.Need-enum-told
+enum-told c = search needs
+
+-- the tests accept
+tests : (c : tie.After-enum-told)
+    → (let a = c .before .before .before .before .before .before .before .args in deductionTested (a .rows) (a .columns) (a .position .now) (length (a .safe .now)) (length (a .mines .now)) ≡ Accepted)
+tests c = sym (c .before .before .test-deduction .ensures) ∙ c .enum-told .given .1
+
+-- so this is known of the input
+facts : (c : tie.After-enum-told)
+    → (let a = c .before .before .before .before .before .before .before .args in AcceptedDeduction (a .rows) (a .columns) (a .position .now) (length (a .safe .now)) (length (a .mines .now)))
+facts c = accepted-deduction _ _ _ _ _ (tests c)
+
+read-blocks-requires : tie.Need-read-blocks-requires
+read-blocks-requires c κs = facts (c .before) .position .board
+
+minus-rule-requires : tie.Need-minus-rule-requires
+minus-rule-requires c κs =
+    let accepted = facts (c .before .before) .position in
+    (read-whole _ _ _ accepted _ (c .read-blocks .ensures), read-ready _ _ _ accepted _ (c .read-blocks .ensures))
+
+give-answer-requires : tie.Need-give-answer-requires
+give-answer-requires c κs =
+    let ran = c .before .before .before in
+    let read = ran .before in
+    let accepts = read .before .before in
+    let a = accepts .before .before .before .before .before .before .before .args in
+    rule-held subtraction (a .rows) (a .columns) (a .position .now) (a .safe .now) (a .mines .now) (tests accepts) (read .read-blocks .result) (read .read-blocks .ensures)
+    (ran .minus-rule .result) (ran .minus-rule .ensures .0) (ran .minus-rule .ensures .1) (subtraction-sound-on (a .rows) (a .columns) (a .position .now) (facts accepts .position .some-columns))
+
+enum-known-refusal : tie.Need-enum-known-refusal
+enum-known-refusal c = search needs
+
+refused-requires : tie.Need-refused-requires
+refused-requires c κs = search needs
+
+same-length : tie.Need-same-length
+same-length c = search needs
+
+same-length-2 : tie.Need-same-length-2
+same-length-2 c = search needs
+
+same-length-3 : tie.Need-same-length-3
+same-length-3 c = search needs
+
+returns : tie.Need-returns
+unfolding solveMinus
+returns c =
+    let gave = c .before .before .before .before .before .before in
+    let ran = gave .before .before .before .before in
+    let read = ran .before in
+    let accepts = read .before .before in
+    let a = accepts .before .before .before .before .before .before .before .args in
+    gave .give-answer .ensures
+    ∙ rule-seen subtraction (a .rows) (a .columns) (a .position .now) (a .safe .now) (a .mines .now) (tests accepts) (read .read-blocks .result) (read .read-blocks .ensures)
+    (ran .minus-rule .result) (ran .minus-rule .ensures .0) (ran .minus-rule .ensures .1)
+
+same-length-4 : tie.Need-same-length-4
+same-length-4 c = search needs
+
+returns-2 : tie.Need-returns-2
+unfolding solveMinus
+returns-2 c =
+    let told = c .before .before .refusal .given in
+    let tested = c .before .before .before .before in
+    let a = tested .before .before .before .before .before .args in
+    rw (c .refused .ensures)
+    (tests-refuse subtraction (a .rows) (a .columns) (a .position .now) (a .safe .now) (a .mines .now) (told .0 .0) (sym (tested .test-deduction .ensures) ∙ told .1))
+
+pub solve-minus-spec : {M : Type 1} → statement M
+solve-minus-spec =
+    tie.close
+    (tie.spec
+    test-deduction-requires
+    enum-told
+    read-blocks-requires
+    minus-rule-requires
+    give-answer-requires
+    enum-known-refusal
+    refused-requires
+    same-length
+    same-length-2
+    same-length-3
+    returns
+    same-length-4
+    returns-2)

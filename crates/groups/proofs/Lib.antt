@@ -1,0 +1,14 @@
+-- The laws of groups, in reading order.
+-- the groups of a block, and that a frontier's blocks have what they ask for
+pub mod FirstsOfClasses
+pub mod GroupLaws
+pub mod FrontierBlocks
+-- what combine does: columns gathered, groups grown
+pub mod ListedPlaces
+pub mod SameLists
+pub mod PushedColumns
+pub mod PassedEquations
+pub mod ChosenFirsts
+pub mod GrownGroups
+pub mod BlockColumns
+pub mod GroupedBlock

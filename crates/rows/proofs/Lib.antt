@@ -1,0 +1,2 @@
+-- The laws of rows written into a table.
+pub mod WrittenRows

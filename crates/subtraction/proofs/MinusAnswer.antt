@@ -1,0 +1,170 @@
+-- The subtraction rule on a block set, as the code puts it together: with its own lists (`Subtracts`) the direct rule's answer on what is left is a
+-- contradiction or two more lists and the blocks left, and the struct that holds all of it is the rule's answer. Rests on the laws of blocks that fit.
+-- Assumes nothing.
+use mathlib.Core.Path.{_≡_, sym, ap, _∙_}
+use mathlib.Core.Bool.{true, false}
+use mathlib.Core.List.{List, _++_}
+use Prim.Native.Nat.{ℕ, _+_, _≤_}
+use native.Mathlib.Omega.{arith}
+use lib.ListN.{length, take, length-append}
+use lib.Seq.{sets}
+use Rattle.lists.specs.Lists.{pad}
+use Rattle.lists.proofs.Arrays.{pad-take}
+use Rattle.lists.proofs.Joined.{pad-sets}
+use Rattle.blocks.specs.Blocks.{Block}
+use Rattle.blocks.specs.BlockSets.{blockSet, blocksOf, Whole}
+use Rattle.blocks.specs.declared.BlockSet.{BlockSet}
+use Rattle.blocks.proofs.Reading.{blocks-of-set}
+use Rattle.chunks.specs.Chunks.{chunkMatrixes}
+use Rattle.marks.specs.Marked.{Ready, leftBlocks}
+use Rattle.rules.specs.Found.{contradicted}
+use Rattle.rules.specs.Direct.{fromLast, direct}
+use Rattle.rules.specs.Answers.{ruleAnswer}
+use Rattle.rules.specs.declared.answer.RuleAnswer.{RuleAnswer}
+use Rattle.rules.proofs.DirectLaws.{direct-contradiction}
+use Rattle.rules.proofs.LeftFits.{direct-left-fits}
+use Rattle.subtraction.specs.Minus.{minusMines, minusSafe, minusBlocks, subtraction}
+use Rattle.subtraction.specs.Pairs.{Subtracts}
+use Rattle.subtraction.specs.declared.Subtracted.{Subtracted}
+use Rattle.subtraction.proofs.LeftFits.{minus-fits}
+use Rattle.subtraction.proofs.ReadyBlocks.{minus-ready, mines-room, safe-room}
+
+-- ---- the answers of the two rules
+
+-- where the direct rule answers the contradiction that is all it answers
+direct-contradicted : (bs : List Block) → direct bs .contradiction ≡ true → direct bs ≡ contradicted
+unfolding direct
+direct-contradicted bs h = rw (sym (direct-contradiction bs) ∙ h)
+
+-- and the subtraction rule answers the same
+subtraction-contradicted : (bs : List Block) → direct (minusBlocks bs) .contradiction ≡ true → subtraction bs ≡ contradicted
+unfolding subtraction
+subtraction-contradicted bs h = rw h
+
+-- else both lists go on with those of the direct rule, and its blocks are split once more
+module _ (bs : List Block) (none : direct (minusBlocks bs) .contradiction ≡ false) where
+  subtraction-found : subtraction bs .contradiction ≡ false
+  unfolding subtraction
+  subtraction-found = rw none
+
+  pub found-safe : subtraction bs .safe ≡ fromLast minusSafe bs ++ direct (minusBlocks bs) .safe
+  unfolding subtraction
+  found-safe = rw none
+
+  pub found-mines : subtraction bs .mines ≡ fromLast minusMines bs ++ direct (minusBlocks bs) .mines
+  unfolding subtraction
+  found-mines = rw none
+
+  found-left : subtraction bs .left ≡ chunkMatrixes (direct (minusBlocks bs) .left)
+  unfolding subtraction
+  found-left = rw none
+
+-- ---- lists in arrays
+
+-- a list stored behind another, each held in an array with its length
+pub lists-stored : (k l : List ℕ) → length k + length l ≤ 1024 → sets (pad 1024 0 k) (length k) (take (length l) (pad 1024 0 l)) ≡ pad 1024 0 (k ++ l)
+lists-stored k l h = rw (pad-take 1024 0 l) (pad-sets 1024 0 k l h)
+
+-- ---- on a set
+
+-- `left` holds what the marks leave
+module _ (s : BlockSet) (w : Whole s) (ready : Ready (blocksOf s)) (own : Subtracted) (told : Subtracts (blocksOf s) own)
+    (left : BlockSet) (left-is : left ≡ blockSet (leftBlocks true (own .«mine_marks») (own .known) (blocksOf s))) where
+  abbrev bs : List Block
+  bs = blocksOf s
+
+  blocks-left : blocksOf left ≡ minusBlocks bs
+  blocks-left = ap blocksOf (left-is ∙ ap blockSet (told .blocks-left)) ∙ blocks-of-set (minusBlocks bs) (minus-fits bs (w .fits))
+
+  -- it is ready for the direct rule
+  pub left-ready : Ready (blocksOf left)
+  left-ready = rw blocks-left (minus-ready bs ready)
+
+  -- `rule` is what that answers
+  module _ (rule : RuleAnswer) (rule-is : rule ≡ ruleAnswer (direct (blocksOf left))) where
+    answered : rule ≡ ruleAnswer (direct (minusBlocks bs))
+    answered = rw blocks-left at rule-is
+
+    rule-contradiction : direct (minusBlocks bs) .contradiction ≡ rule .contradiction
+    unfolding ruleAnswer
+    rule-contradiction = sym (ap (λ (r : RuleAnswer). r .contradiction) answered)
+
+    rule-safe : rule .safe ≡ pad 1024 0 (direct (minusBlocks bs) .safe)
+    unfolding ruleAnswer
+    rule-safe = ap (λ (r : RuleAnswer). r .safe) answered
+
+    rule-safe-count : rule .«safe_count» ≡ length (direct (minusBlocks bs) .safe)
+    unfolding ruleAnswer
+    rule-safe-count = ap (λ (r : RuleAnswer). r .«safe_count») answered
+
+    rule-mines : rule .mines ≡ pad 1024 0 (direct (minusBlocks bs) .mines)
+    unfolding ruleAnswer
+    rule-mines = ap (λ (r : RuleAnswer). r .mines) answered
+
+    rule-mine-count : rule .«mine_count» ≡ length (direct (minusBlocks bs) .mines)
+    unfolding ruleAnswer
+    rule-mine-count = ap (λ (r : RuleAnswer). r .«mine_count») answered
+
+    -- its blocks are read back
+    rule-left : blocksOf (rule .left) ≡ direct (minusBlocks bs) .left
+    unfolding ruleAnswer
+    rule-left =
+        ap (λ (r : RuleAnswer). blocksOf (r .left)) answered
+        ∙ blocks-of-set (direct (minusBlocks bs) .left) (direct-left-fits (minusBlocks bs) (minus-fits bs (w .fits)))
+
+    -- a contradiction is handed on
+    pub rule-contradicted : rule .contradiction ≡ true → rule ≡ ruleAnswer (subtraction bs)
+    rule-contradicted h =
+        let both = rule-contradiction ∙ h in
+        answered ∙ ap ruleAnswer (direct-contradicted (minusBlocks bs) both ∙ sym (subtraction-contradicted bs both))
+
+    -- there is room for both lists
+    pub all-mines-fit : own .«mine_count» + rule .«mine_count» ≤ 1024
+    all-mines-fit = omega (arith, told .mines-counted, rule-mine-count, mines-room bs ready (w .fits))
+
+    pub all-safe-fit : own .«safe_count» + rule .«safe_count» ≤ 1024
+    all-safe-fit = omega (arith, told .safe-counted, rule-safe-count, safe-room bs ready (w .fits))
+
+    -- and the struct that holds them, with the blocks left, is the rule's answer
+    pub rule-answered : rule .contradiction ≡ false
+        → (mine-list : List ℕ) → mine-list ≡ sets (own .mines) (own .«mine_count») (take (rule .«mine_count») (rule .mines))
+        → (safe-list : List ℕ) → safe-list ≡ sets (own .safe) (own .«safe_count») (take (rule .«safe_count») (rule .safe))
+        → (split : BlockSet) → split ≡ blockSet (chunkMatrixes (blocksOf (rule .left)))
+        → record {
+          contradiction = false;
+          safe = safe-list;
+          «safe_count» = own .«safe_count» + rule .«safe_count»;
+          mines = mine-list;
+          «mine_count» = own .«mine_count» + rule .«mine_count»;
+          left = split;
+        }
+        ≡ ruleAnswer (subtraction bs)
+    unfolding ruleAnswer
+    rule-answered out mine-list mines-stored safe-list safe-stored split split-is =
+        let none = rule-contradiction ∙ out in
+        let a = fromLast minusMines bs in
+        let b = direct (minusBlocks bs) .mines in
+        let c = fromLast minusSafe bs in
+        let d = direct (minusBlocks bs) .safe in
+        rw (
+          mines-stored,
+          safe-stored,
+          split-is,
+          told .mines-counted,
+          told .safe-counted,
+          told .mines-are,
+          told .safe-are,
+          rule-mine-count,
+          rule-safe-count,
+          rule-mines,
+          rule-safe,
+          rule-left,
+          subtraction-found bs none,
+          found-mines bs none,
+          found-safe bs none,
+          found-left bs none,
+          lists-stored a b (mines-room bs ready (w .fits)),
+          lists-stored c d (safe-room bs ready (w .fits)),
+          length-append a b,
+          length-append c d,
+        )
