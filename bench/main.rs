@@ -229,23 +229,30 @@ fn hard(path: &str) {
     }
 }
 
-/// Positions of play whose largest block has about so many groups: enumeration beside the Rust's own solve_enumerate.
-fn blocks_of(random: &mut Random, wanted: &[usize]) {
+/// How many positions of each size are looked for.
+const EACH: usize = 40;
+
+/// Positions of play whose largest block has so many groups: enumeration beside the Rust's own solve_enumerate. Positions are those at which a game asks for
+/// it, since the other rules find nothing, or any.
+fn blocks_of(random: &mut Random, wanted: &[usize], asked_for: bool) {
     let (rows, columns, mines) = (16, 30, 99);
-    println!("enumeration at played positions of {} x {} with {} mines, by the groups of the largest block", rows, columns, mines);
+    let which = if asked_for { "at which the other rules find nothing" } else { "before any pass" };
+    println!("enumeration at played positions of {} x {} with {} mines {}, by the groups of the largest block", rows, columns, mines, which);
     let mut found: Vec<Vec<Grid>> = vec![vec![]; wanted.len()];
     for _ in 0..20000 {
         let Some(b) = board(random, rows, columns, mines) else { continue };
-        for g in played(&b) {
+        let positions = played(&b);
+        let first = if asked_for { positions.len() - 1 } else { 0 };
+        for g in positions.into_iter().skip(first) {
             let (a, x, rests, _, _) = refresh_matrixs(&g);
             let largest = (0..x.len()).map(|i| values::Block::new(&a[i], &x[i], &rests[i]).groups()).max().unwrap_or(0);
             if let Some(k) = wanted.iter().position(|&w| w == largest) {
-                if found[k].len() < 10 {
+                if found[k].len() < EACH {
                     found[k].push(g);
                 }
             }
         }
-        if found.iter().all(|f| f.len() == 10) {
+        if found.iter().all(|f| f.len() == EACH) {
             break;
         }
     }
@@ -257,9 +264,13 @@ fn blocks_of(random: &mut Random, wanted: &[usize]) {
         };
         let n = positions.len();
         let rounds = 20;
+        if n == 0 {
+            println!("  {} groups: no position in 20,000 games", wanted[k]);
+            continue;
+        }
         let (rust, our) = turns("enumerate", rounds * n, |i| unchanged(&positions[i % n]), |i| ours::rule(ours::lihvompa_enumerate, rows, columns, &bytes[i % n])[0]);
         let (asked, walked) = positions.iter().map(values_tried).fold((0, 0), |sum, v| (sum.0 + v.0, sum.1 + v.1));
-        let each = 1e3 / (rounds * max(1, n)) as f64;
+        let each = 1e3 / (rounds * n) as f64;
         println!("  {} groups, {} positions: values tried {} of {} in all; a position: rust {:.3} ms, ours {:.3} ms, ratio {:.2}",
             wanted[k], n, asked, walked, rust.all * each, our.all * each, rust.all / our.all);
     }
@@ -285,7 +296,8 @@ fn run() {
     for side in [8, 12, 16, 20, 24, 28, 32] {
         verdicts(&mut random, side, side, side * side / 5, 400);
     }
-    blocks_of(&mut random, &[20, 30, 40, 53]);
+    blocks_of(&mut random, &[20, 30, 40, 53], true);
+    blocks_of(&mut random, &[20, 30, 40, 53], false);
     if let Some(path) = std::env::args().nth(1) {
         hard(&path);
     }
