@@ -139,7 +139,22 @@ fn rust_rule(rule: Rule, position: &Grid) -> [u64; 2] {
     [safe.len() as u64, mines.len() as u64]
 }
 
-/// The frontier, the rules and the table's first block on played positions.
+/// Solutions and groups of a position's first block, from a table of all its rows.
+fn rust_table(position: &Grid) -> [u64; 2] {
+    let (a, x, b, _, _) = refresh_matrixs(position);
+    let (squeezed, _, groups) = combine(&a[0], &x[0]);
+    [cal_all_solution(&squeezed, &b[0]).len() as u64, groups.len() as u64]
+}
+
+/// The table of the first block at played positions, where it has at most 16,384 bytes.
+fn tables(rows: usize, columns: usize, positions: &[Grid]) {
+    let some: Vec<&Grid> = positions.iter().filter(|g| !refresh_matrixs(g).1.is_empty()).filter(|g| rust_table(g).iter().product::<u64>() <= 16384).collect();
+    let bytes: Vec<Vec<u8>> = some.iter().map(|g| bytes_of(g)).collect();
+    println!("{} positions with a first block whose table has at most 16,384 bytes", some.len());
+    compare("table", some.len(), |k| rust_table(some[k]), |k| ours::table(rows, columns, &bytes[k], 0, &mut [0; 16384]));
+}
+
+/// The frontier, the rules and the table on played positions.
 fn rules(random: &mut Random, rows: usize, columns: usize, mines: usize, games: usize) {
     let games = boards(random, rows, columns, mines, games);
     let positions: Vec<Grid> = games.iter().flat_map(played).collect();
@@ -157,6 +172,7 @@ fn rules(random: &mut Random, rows: usize, columns: usize, mines: usize, games: 
     };
     println!("{} positions at which both rules find nothing", stuck.len());
     compare("enumerate", stuck.len(), |k| enumerated(&stuck[k]), |k| ours::rule(ours::lihvompa_enumerate, rows, columns, &stuck_bytes[k]));
+    tables(rows, columns, &stuck);
 }
 
 fn patterns(random: &mut Random, rows: usize, columns: usize, mines: usize, count: usize) {

@@ -15,6 +15,9 @@ extern "C" {
         rows: usize, columns: usize, position: *mut u8, length: usize, safe: *mut u16, safe_length: usize, mines: *mut u16, mines_length: usize,
         counts: *mut u64, counts_length: usize,
     ) -> u8;
+    fn lihvompa_table(
+        rows: usize, columns: usize, position: *const u8, length: usize, block: usize, table: *mut u8, table_length: usize, counts: *mut u64, counts_length: usize,
+    ) -> u8;
     fn lihvompa_pattern(rows: usize, columns: usize, cells: *const u8, length: usize, counts: *mut u64, counts_length: usize) -> u8;
     fn lihvompa_verdict(
         rows: usize, columns: usize, start_row: usize, start_column: usize, cells: *const u8, length: usize, picture: *mut u8, picture_length: usize,
@@ -36,6 +39,16 @@ pub fn rule(call: Deduction, rows: usize, columns: usize, position: &[u8]) -> [u
     let (mut safe, mut mines, mut counts) = ([0u16; 1024], [0u16; 1024], [0; 2]);
     let refusal = unsafe {
         call(rows, columns, p.as_mut_ptr(), p.len(), safe.as_mut_ptr(), safe.len(), mines.as_mut_ptr(), mines.len(), counts.as_mut_ptr(), counts.len())
+    };
+    assert_eq!(refusal, 0);
+    counts
+}
+
+/// Solutions and groups of a block, whose table has room.
+pub fn table(rows: usize, columns: usize, position: &[u8], block: usize, room: &mut [u8]) -> [u64; 2] {
+    let mut counts = [0; 2];
+    let refusal = unsafe {
+        lihvompa_table(rows, columns, position.as_ptr(), position.len(), block, room.as_mut_ptr(), room.len(), counts.as_mut_ptr(), counts.len())
     };
     assert_eq!(refusal, 0);
     counts
