@@ -1,5 +1,5 @@
 -- What is printed of an answer can be read, whatever the call was asked: the block set of a frontier's answer is whole, and of a rule's answer the counts are
--- within the lists besides. A refusal has no block. Rests on the laws of calls of the crates rules and solutions, on what an acceptance tells and on those of the block set. Assumes nothing.
+-- within the lists besides. A refusal has no block. Rests on the laws of calls of the crate deductions, on what an acceptance tells and on those of the block set. Assumes nothing.
 use mathlib.Core.Path.{_≡_, refl}
 use mathlib.Core.Bool.{Bool, true, false, cond}
 use mathlib.Core.List.{List, [], map}

@@ -1,4 +1,4 @@
--- How the answer of a rule on blocks is held in a struct. Assumes nothing.
+-- The structs of rules: what a rule on blocks answers, its two lists alone, and what the two sweeps of the direct rule list. Assumes nothing.
 use mathlib.Core.Path.{_≡_}
 use mathlib.Core.List.{List}
 use Prim.Native.Nat.{ℕ}
@@ -12,8 +12,6 @@ use Rattle.rules.specs.Direct.{sureMines, sureSafe}
 use Rattle.rules.specs.declared.answer.RuleAnswer.{RuleAnswer}
 use Rattle.rules.specs.declared.answer.Lists.{Lists}
 use Rattle.rules.specs.declared.direct.Swept.{Swept}
-
--- ---- a rule on blocks
 
 -- the struct that holds what a rule found
 unfoldable pub ruleAnswer : Found → RuleAnswer

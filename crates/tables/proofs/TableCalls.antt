@@ -1,6 +1,6 @@
 -- What a caller of cal_all_solution has, from what the call ensures alone. Where it answers n solutions of g groups, the table's front is n rows of g bytes:
 -- each solves the block asked for within its groups' sizes, every row that does is there, none twice, and they stand in the order of weights; the bytes
--- behind them keep their values. A refusal keeps all. Rests on ListedSolutions and GroupRows of the crate solutions, and RowsOfOneWidth. Assumes nothing.
+-- behind them keep their values. A refusal keeps all. Rests on ListedSolutions and GroupRows of the crate search, and RowsOfOneWidth. Assumes nothing.
 use mathlib.Core.Path.{_≡_, refl, sym, ap, _∙_}
 use mathlib.Core.Logic.{_⊎_, inl, inr}
 use mathlib.Core.Bool.{Bool, true, false, _&&_}

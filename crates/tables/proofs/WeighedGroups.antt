@@ -1,6 +1,6 @@
 -- The order by weight, as the arrays of a combinable block give it: a group's first equation is the first number of its column, so the groups weighed by the
 -- columns are the groups weighed by the block; and that order, behind which the array is filled up, has each group once, so the search takes it. Rests on
--- ReadingGroups and ListedSolutions of the crate solutions. Assumes nothing.
+-- ReadingGroups and ListedSolutions of the crate search. Assumes nothing.
 use mathlib.Core.Path.{_≡_, refl, sym, ap, _∙_}
 use mathlib.Core.Logic.{inl, inr}
 use mathlib.Core.List.{List, [], _∷_, reverse}

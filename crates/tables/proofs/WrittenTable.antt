@@ -1,6 +1,6 @@
 -- The table of a block, from what combine and weigh answer of it: the rows that the search writes in the order by weight are the solutions, by group. So what
 -- the caller sees is the block's table in each case: a negative remainder and so no solution, rows that have room and are written, and too many rows.
--- Rests on WeighedGroups and on TreeSolutions of the crate solutions. Assumes nothing.
+-- Rests on WeighedGroups and on TreeSolutions of the crate search. Assumes nothing.
 use mathlib.Core.Path.{_≡_, sym, ap, _∙_}
 use mathlib.Core.Bool.{true, false}
 use mathlib.Core.List.{List, map, List·Memᴰ}
