@@ -16,6 +16,7 @@ pub mod ListLaws
 pub mod OrderedGroups
 pub mod Lowering
 pub mod Branches
+pub mod HeldValues
 pub mod TakenValues
 pub mod KeptValues
 pub mod Spending

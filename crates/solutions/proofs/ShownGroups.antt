@@ -27,16 +27,17 @@ use Rattle.blocks.specs.declared.Bounds.{Bounds}
 use Rattle.groups.specs.declared.Grouped.{Grouped}
 use Rattle.groups.specs.Groups.{column, alike, addFirsts, firsts, groupOf, sizes}
 use Rattle.groups.specs.Grouping.{Combinable, grouped}
-use Rattle.groups.proofs.GroupLaws.{group-of-below, size-positive, firsts-some, column-below}
+use Rattle.groups.proofs.GroupLaws.{group-of-below, size-positive, firsts-some, column-below, column-once}
 use Rattle.search.specs.Solutions.{solutions}
 use Rattle.search.specs.Searching.{Ordered, State}
 use Rattle.search.proofs.Orders.{EachOnce}
-use Rattle.search.proofs.ReadingGroups.{groups-few, groups-read, columns-read, columns-long, sizes-read, grouped-ordered, grouped-state}
+use Rattle.search.proofs.ReadingGroups.{groups-few, groups-read, equations-read, columns-read, columns-long, sizes-read, group-small, grouped-ordered, grouped-state}
 use Rattle.search.proofs.ListedSolutions.{negative-none}
 use Rattle.orders.specs.Ordering.{Reach}
+use Rattle.settling.specs.Settling.{Columns, Settles}
 use Rattle.solutions.specs.Enumeration.{neverMined, alwaysMined}
-use Rattle.solutions.specs.Asking.{shown, OverGroups, ShownOnly, Told, Stay}
-use Rattle.solutions.proofs.NotedMarks.{only-none, only-whole}
+use Rattle.solutions.specs.Asking.{shown, OverGroups, ShownOnly, Told, SettledTold, Stay}
+use Rattle.solutions.proofs.NotedMarks.{only-none, only-whole, stay-same, stay-twice}
 use Rattle.lists.proofs.PartedLists.{same-self}
 use Rattle.lists.proofs.StoredAndKept.{all-mapped}
 
@@ -121,52 +122,109 @@ module _ (b : Block) {mined unfilled : List ℕ} where
 
 -- ---- while the groups are gone through
 
--- the arrays that combine answers
+-- the arrays that combine answers, before any group is settled
+module _ (b : Block) (k : Combinable b) where
+  pub start-columns : Columns (grouped b .groups) (grouped b .sizes) (grouped b .columns)
+  start-columns =
+      record {
+        few = omega (arith, groups-read b, groups-few b k);
+        whole = columns-long b k;
+        at = λ g h.
+            let here : g < length (firsts b) = omega (arith, groups-read b) in
+            let first = getD (firsts b) g 0 in
+            record {
+              small = group-small b k g here;
+              below = rw (columns-read b k g here)
+                  (has-all (λ e. ltb e 1024) (column b first) (λ e m. lt-ltb e 1024 (omega (arith, column-below b first e m, k .few-equations))));
+              once = rw (columns-read b k g here) (column-once b first);
+            };
+      }
+
+  pub start-state : State 1024 (grouped b .needs) (grouped b .rooms)
+  start-state =
+      let s = grouped-state b k in
+      record {
+        whole-needs = s .whole-needs;
+        whole-rooms = s .whole-rooms;
+        needs-small = s .needs-small;
+        rooms-small = s .rooms-small;
+        past = λ e h. s .past e (omega (arith, equations-read b, k .few-equations));
+      }
+
+-- and with some settled
 pub over-grouped : (b : Block) (r : Grouped) → r ≡ grouped b → Combinable b → r .negative ≡ false
-    → OverGroups b (r .groups) (r .equations) (r .sizes) (r .columns) (r .needs) (r .rooms)
-over-grouped b r e k positive =
+    → {settled values needs rooms : List ℕ} → State 1024 needs rooms → Settles (r .sizes) (r .columns) (r .needs) (r .rooms) settled values needs rooms
+    → OverGroups b (r .groups) (r .equations) (r .sizes) (r .columns) settled values needs rooms
+over-grouped b r e k positive s settles =
+    let equations-is = ap (λ (x : Grouped). x .equations) e in
+    let needs-is = ap (λ (x : Grouped). x .needs) e in
+    let rooms-is = ap (λ (x : Grouped). x .rooms) e in
     record {
       combinable = k;
       positive = sym (ap (λ (x : Grouped). x .negative) e) ∙ positive;
       is-groups = ap (λ (x : Grouped). x .groups) e;
-      is-equations = ap (λ (x : Grouped). x .equations) e;
+      is-equations = equations-is;
       is-sizes = ap (λ (x : Grouped). x .sizes) e;
       is-columns = ap (λ (x : Grouped). x .columns) e;
-      is-needs = ap (λ (x : Grouped). x .needs) e;
-      is-rooms = ap (λ (x : Grouped). x .rooms) e;
+      state = record {
+        whole-needs = s .whole-needs;
+        whole-rooms = s .whole-rooms;
+        needs-small = s .needs-small;
+        rooms-small = s .rooms-small;
+        past = λ i h. omega (arith, rw needs-is at (settles .less i), grouped-state b k .past i (rw equations-is at h));
+      };
+      settles = rw (needs-is, rooms-is) at settles;
     }
 
--- of the block whose arrays these are only what some solution shows is marked, and the groups before g are told
-pub record Telling (groups equations : ℕ) (sizes columns needs rooms mined unfilled : List ℕ) (g : ℕ) : Type 0 where
-  pub only : (b : Block) → OverGroups b groups equations sizes columns needs rooms → ShownOnly b mined unfilled
-  pub told : (b : Block) → OverGroups b groups equations sizes columns needs rooms → (j : ℕ) → j < g → Told b mined unfilled j
+-- of the block whose arrays these are only what some solution shows is marked, if it was at the start; no mark is taken away; and the groups before g are told,
+-- if the settled ones were
+pub record Telling (groups equations : ℕ) (sizes columns settled values needs rooms startMined startUnfilled mined unfilled : List ℕ) (g : ℕ) : Type 0 where
+  pub only : (b : Block) → OverGroups b groups equations sizes columns settled values needs rooms → ShownOnly b startMined startUnfilled → ShownOnly b mined unfilled
+  pub stays : Stay startMined mined × Stay startUnfilled unfilled
+  pub told : (b : Block) → OverGroups b groups equations sizes columns settled values needs rooms → ShownOnly b startMined startUnfilled
+      → SettledTold b settled startMined startUnfilled → (j : ℕ) → j < g → Told b mined unfilled j
 
-pub telling-start : {groups equations : ℕ} {sizes columns needs rooms : List ℕ} → Telling groups equations sizes columns needs rooms (replicate 1024 0) (replicate 1024 0) 0
-telling-start = record { only = λ b _. shown-start b; told = λ b _ j h. absurd (not-suc-le-zero h) }
+pub telling-start : {groups equations : ℕ} {sizes columns settled values needs rooms : List ℕ} (mined unfilled : List ℕ)
+    → Telling groups equations sizes columns settled values needs rooms mined unfilled mined unfilled 0
+telling-start mined unfilled = record { only = λ b over s. s; stays = (stay-same mined, stay-same unfilled); told = λ b over s t j h. absurd (not-suc-le-zero h) }
 
-module _ {groups equations : ℕ} {sizes columns needs rooms mined unfilled : List ℕ} {g : ℕ} (t : Telling groups equations sizes columns needs rooms mined unfilled g) where
-  -- the next group has both marks
-  pub telling-known : 2 ≤ getD mined g 0 + getD unfilled g 0 → Telling groups equations sizes columns needs rooms mined unfilled (g + 1)
-  telling-known h = record { only = t .only; told = λ b over j below. next b over j below (decided (eqb j g)) }
+module _ {groups equations : ℕ} {sizes columns settled values needs rooms startMined startUnfilled mined unfilled : List ℕ} {g : ℕ}
+    (t : Telling groups equations sizes columns settled values needs rooms startMined startUnfilled mined unfilled g) where
+  -- the next group is told, with more marks or as they are
+  telling-next : {afterMined afterUnfilled : List ℕ} → Stay mined afterMined → Stay unfilled afterUnfilled
+      → ((b : Block) → OverGroups b groups equations sizes columns settled values needs rooms → ShownOnly b startMined startUnfilled → ShownOnly b afterMined afterUnfilled)
+      → ((b : Block) → OverGroups b groups equations sizes columns settled values needs rooms → ShownOnly b startMined startUnfilled → SettledTold b settled startMined startUnfilled
+      → Told b afterMined afterUnfilled g)
+      → Telling groups equations sizes columns settled values needs rooms startMined startUnfilled afterMined afterUnfilled (g + 1)
+  telling-next {afterMined} {afterUnfilled} m u only here =
+      record {
+        only = only;
+        stays = (stay-twice (t .stays .0) m, stay-twice (t .stays .1) u);
+        told = λ b over s k j below. next b over s k j below (decided (eqb j g));
+      }
     where
-      next : (b : Block) → OverGroups b groups equations sizes columns needs rooms → (j : ℕ) → j < g + 1 → Decided (eqb j g) → Told b mined unfilled j
-      next b over j below (inl e) = rw (eqb-true j g e) (told-both b (t .only b over) g h)
-      next b over j below (inr e) = t .told b over j (omega (arith, eqb-false j g e))
+      next : (b : Block) → OverGroups b groups equations sizes columns settled values needs rooms → ShownOnly b startMined startUnfilled → SettledTold b settled startMined startUnfilled
+          → (j : ℕ) → j < g + 1 → Decided (eqb j g) → Told b afterMined afterUnfilled j
+      next b over s k j below (inl e) = rw (eqb-true j g e) (here b over s k)
+      next b over s k j below (inr e) = told-stay b j m u (t .told b over s k j (omega (arith, eqb-false j g e)))
+
+  -- it is settled
+  pub telling-settled : has settled g ≡ true → Telling groups equations sizes columns settled values needs rooms startMined startUnfilled mined unfilled (g + 1)
+  telling-settled h = telling-next (stay-same mined) (stay-same unfilled) (t .only) (λ b over s k. told-stay b g (t .stays .0) (t .stays .1) (k .told g h))
+
+  -- it has both marks
+  pub telling-known : 2 ≤ getD mined g 0 + getD unfilled g 0 → Telling groups equations sizes columns settled values needs rooms startMined startUnfilled mined unfilled (g + 1)
+  telling-known h = telling-next (stay-same mined) (stay-same unfilled) (t .only) (λ b over s k. told-both b (t .only b over s) g h)
 
   -- it is asked for
   pub telling-asked : {afterMined afterUnfilled : List ℕ} → Stay mined afterMined → Stay unfilled afterUnfilled
-      → ((b : Block) → OverGroups b groups equations sizes columns needs rooms → ShownOnly b mined unfilled → ShownOnly b afterMined afterUnfilled × Told b afterMined afterUnfilled g)
-      → Telling groups equations sizes columns needs rooms afterMined afterUnfilled (g + 1)
-  telling-asked {afterMined} {afterUnfilled} m u asked =
-      record { only = λ b over. asked b over (t .only b over) .0; told = λ b over j below. next b over j below (decided (eqb j g)) }
-    where
-      next : (b : Block) → OverGroups b groups equations sizes columns needs rooms → (j : ℕ) → j < g + 1 → Decided (eqb j g) → Told b afterMined afterUnfilled j
-      next b over j below (inl e) = rw (eqb-true j g e) (asked b over (t .only b over) .1)
-      next b over j below (inr e) = told-stay b j m u (t .told b over j (omega (arith, eqb-false j g e)))
+      → ((b : Block) → OverGroups b groups equations sizes columns settled values needs rooms → ShownOnly b mined unfilled → ShownOnly b afterMined afterUnfilled × Told b afterMined afterUnfilled g)
+      → Telling groups equations sizes columns settled values needs rooms startMined startUnfilled afterMined afterUnfilled (g + 1)
+  telling-asked m u asked = telling-next m u (λ b over s. asked b over (t .only b over s) .0) (λ b over s k. asked b over (t .only b over s) .1)
 
 -- ---- what the arrays of a block let the functions be asked
 
-module _ {b : Block} {groups equations : ℕ} {sizes columns needs rooms : List ℕ} (over : OverGroups b groups equations sizes columns needs rooms) where
+module _ {b : Block} {groups equations : ℕ} {sizes columns settled values needs rooms : List ℕ} (over : OverGroups b groups equations sizes columns settled values needs rooms) where
   pub over-groups : groups ≡ length (firsts b)
   over-groups = over .is-groups ∙ groups-read b
 
@@ -184,6 +242,3 @@ module _ {b : Block} {groups equations : ℕ} {sizes columns needs rooms : List 
   over-ordered order whole below once =
       let each : EachOnce (take groups order) groups = record { long = length-take-le groups order (omega (arith, over-few)); below = below; once = once } in
       rw (over .is-groups, over .is-equations, over .is-sizes, over .is-columns) (grouped-ordered b (over .combinable) order whole (rw (over .is-groups) at each))
-
-  pub over-state : State equations needs rooms
-  over-state = rw (over .is-equations, over .is-needs, over .is-rooms) (grouped-state b (over .combinable))

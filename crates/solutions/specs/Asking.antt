@@ -5,11 +5,13 @@ use mathlib.Core.Bool.{Bool, true, false, not, cond, _&&_}
 use mathlib.Core.List.{List, map, List·Memᴰ}
 use Prim.Native.Nat.{ℕ, _≤_, _<_}
 use lib.Dec.{ltb}
-use lib.ListN.{length, getD, take}
-use Rattle.lists.specs.Lists.{empty, range, bit, pad}
+use lib.ListN.{length, getD}
+use Rattle.lists.specs.Lists.{empty, range, has, bit, pad}
 use Rattle.blocks.specs.Blocks.{Block}
 use Rattle.groups.specs.Groups.{firsts}
 use Rattle.groups.specs.Grouping.{Combinable, grouped}
+use Rattle.search.specs.Searching.{State, unset, Kept}
+use Rattle.settling.specs.Settling.{Settles}
 use Rattle.solutions.specs.Enumeration.{neverMined, alwaysMined}
 use Rattle.solutions.specs.declared.asking.Shown.{Shown}
 
@@ -30,25 +32,25 @@ pub record Noted (groups : ℕ) (f : ℕ → Bool) (before after : List ℕ) : T
 
 -- ---- a search for one solution
 
--- where there is no row nothing is marked, else what one of the rows shows
-pub record Answered (groups : ℕ) (order sizes : List ℕ) (rows : List (List ℕ)) (mined unfilled afterMined afterUnfilled : List ℕ) : Type 0 where
+-- where there is no row nothing is marked, else what values show: those of one of the rows for the groups still unset, and the ones that were there for the others
+pub record Answered (groups at : ℕ) (order sizes settled : List ℕ) (rows : List (List ℕ)) (mined unfilled afterMined afterUnfilled : List ℕ) : Type 0 where
   pub none : empty rows ≡ true → (afterMined ≡ mined) × (afterUnfilled ≡ unfilled)
   pub one : empty rows ≡ false
-      → (values : List ℕ) × List·Memᴰ (map (λ (g : ℕ). getD values g 0) (take groups order)) rows
+      → (values : List ℕ) × Kept (unset order groups at) settled values × List·Memᴰ (map (λ (g : ℕ). getD values g 0) (unset order groups at)) rows
       × Noted groups (mineIn values) mined afterMined × Noted groups (freeIn sizes values) unfilled afterUnfilled
 
 -- ---- what the solutions of a block show
 
--- the arrays are what combine answers for a block without a negative remainder
-pub record OverGroups (b : Block) (groups equations : ℕ) (sizes columns needs rooms : List ℕ) : Type 0 where
+-- the arrays are what combine answers for a block without a negative remainder, with some groups settled at their values
+pub record OverGroups (b : Block) (groups equations : ℕ) (sizes columns settled values needs rooms : List ℕ) : Type 0 where
   pub combinable : Combinable b
   pub positive : grouped b .negative ≡ false
   pub is-groups : groups ≡ grouped b .groups
   pub is-equations : equations ≡ grouped b .equations
   pub is-sizes : sizes ≡ grouped b .sizes
   pub is-columns : columns ≡ grouped b .columns
-  pub is-needs : needs ≡ grouped b .needs
-  pub is-rooms : rooms ≡ grouped b .rooms
+  pub state : State equations needs rooms
+  pub settles : Settles sizes columns (grouped b .needs) (grouped b .rooms) settled values needs rooms
 
 -- of the first groups, only some that pass a test are marked
 pub record Only (groups : ℕ) (t : ℕ → Bool) (marks : List ℕ) : Type 0 where
@@ -65,6 +67,10 @@ pub record ShownOnly (b : Block) (mined unfilled : List ℕ) : Type 0 where
 pub record Told (b : Block) (mined unfilled : List ℕ) (g : ℕ) : Type 0 where
   pub mine : neverMined b g ≡ false → getD mined g 0 ≡ 1
   pub free : alwaysMined b g ≡ false → getD unfilled g 0 ≡ 1
+
+-- the same of each settled group
+pub record SettledTold (b : Block) (settled mined unfilled : List ℕ) : Type 0 where
+  pub told : (g : ℕ) → has settled g ≡ true → Told b mined unfilled g
 
 -- no mark is taken away
 pub record Stay (before after : List ℕ) : Type 0 where

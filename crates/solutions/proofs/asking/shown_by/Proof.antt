@@ -1,143 +1,100 @@
--- `solutions::asking::shown_by` meets its contract. The loop's invariant: what is marked some solution shows, and of the groups before g all that some solution shows
--- is marked; needs and rooms are as they were. The measure is what is left. Rests on what `outward` and `ask_group` ensure. Assumes nothing.
-use Prim.Native.Nat.{_-_, _≤_, _<_}
+-- `solutions::asking::shown_by` meets its contract. Groups are settled, one solution is asked for, and then each other group: what is marked some solution shows, and of all
+-- groups all that some solution shows is marked. Rests on what `settle`, `ask_any` and `ask_groups` ensure. Assumes nothing.
+use Prim.Native.Nat.{ℕ, _<_}
 use mathlib.Core.Path.{_≡_, refl, sym, ap, _∙_}
 use mathlib.Core.Bool.{true}
-use mathlib.Core.Logic.{⊎-elim}
 use native.Mathlib.Omega.{arith}
 use lib.Dec.{ltb}
+use lib.ListN.{take}
 use borrow.Author.Needs.{needs}
 use Rattle.lists.specs.Lists.{all}
 use Rattle.blocks.specs.Blocks.{Block}
 use Rattle.blocks.specs.Places.{blockFrom}
 use Rattle.groups.specs.declared.Grouped.{Grouped}
-use Rattle.groups.specs.Grouping.{grouped}
-use Rattle.solutions.specs.Asking.{OverGroups, ShownOnly}
-use Rattle.solutions.proofs.ShownGroups.{groups-of-below, columns-reach, shown-start, shown-whole, shown-negative, over-grouped, over-groups, over-few, over-columns, over-some, over-ordered, over-state, Telling, telling-start, telling-known, telling-asked}
+use Rattle.search.specs.Searching.{Ordered}
+use Rattle.solutions.specs.Asking.{OverGroups, ShownOnly, SettledTold}
+use Rattle.solutions.proofs.SearchAnswers.{answered-shown, any-told}
+use Rattle.solutions.proofs.ShownGroups.{groups-of-below, columns-reach, shown-start, shown-whole, shown-negative, start-columns, start-state, over-grouped, over-groups, over-few, over-ordered}
 use Rattle.solutions.proofs.asking.shown_by.Statement.{statement}
 use Rattle.solutions.proofs.asking.shown_by.Tie as tie
 
-abbrev Inv-loop : tie.InvT-loop
-Inv-loop cells slots rests grouped first mined₀ unfilled₀ groups sizes columns group-of needs₀ rooms₀ g₀ mined unfilled needs rooms g =
-    (g ≤ groups) × (needs ≡ needs₀) × (rooms ≡ rooms₀) × Telling groups (grouped .equations) sizes columns needs₀ rooms₀ mined unfilled g
-
-abbrev μ-loop : tie.MeasureT-loop
-μ-loop cells slots rests grouped first mined₀ unfilled₀ groups sizes columns group-of needs₀ rooms₀ g₀ mined unfilled needs rooms g =
-    groups - g
-
 -- the block
-abbrev block : tie.Start Inv-loop μ-loop → Block
+abbrev block : tie.Start → Block
 block s = blockFrom (s .args .cells .now) (s .args .slots .now) (s .args .rests .now) (s .args .bounds)
 
-returns : tie.Need-returns Inv-loop μ-loop
+returns : tie.Need-returns
 returns c =
-    let s = c .before .before .before .before .before .before in
+    let s = c .before in
     shown-negative (block s) (shown-start (block s)) (s .pre .1 .0) (sym (ap (λ (x : Grouped). x .negative) (s .pre .1 .1)) ∙ c .if1 .taken)
 
--- its arrays
-over : (c : tie.Else1 Inv-loop μ-loop)
-    → OverGroups (block (c .before .before .before .before .before .before)) (c .before .before .before .before .before .before .args .grouped .groups)
-    (c .before .before .before .before .before .before .args .grouped .equations) (c .before .before .before .before .before .before .args .grouped .sizes)
-    (c .before .before .before .before .before .before .args .grouped .columns) (c .before .before .before .before .before .before .args .grouped .needs)
-    (c .before .before .before .before .before .before .args .grouped .rooms)
+settle-requires : tie.Need-settle-requires
+settle-requires c κs =
+    let s = c .before .before .before .before .before .before .before .before in
+    (rw (s .pre .1 .1) (start-columns (block s) (s .pre .1 .0)), rw (s .pre .1 .1) (start-state (block s) (s .pre .1 .0)))
+
+-- its arrays, with the groups that are settled
+over : (c : tie.After-settle)
+    → OverGroups (block (c .before .before .before .before .before .before .before .before .before)) (c .before .before .before .before .before .before .before .before .before .args .grouped .groups) (c .before .before .before .before .before .before .before .before .before .args .grouped .equations) (c .before .before .before .before .before .before .before .before .before .args .grouped .sizes) (c .before .before .before .before .before .before .before .before .before .args .grouped .columns)
+    (take (c .settle .result .begun .count) (c .settle .result .begun .groups)) (c .settle .result .values) (c .settle .result .needs) (c .settle .result .rooms)
 over c =
-    let s = c .before .before .before .before .before .before in
-    over-grouped (block s) (s .args .grouped) (s .pre .1 .1) (s .pre .1 .0) (c .if1 .left)
+    let s = c .before .before .before .before .before .before .before .before .before in
+    over-grouped (block s) (s .args .grouped) (s .pre .1 .1) (s .pre .1 .0) (c .before .before .before .before .before .before .before .before .if1 .left) (c .settle .ensures .0 .1) (c .settle .ensures .1)
 
--- what is marked some solution shows
-only : (c : tie.In-loop Inv-loop μ-loop) → ShownOnly (block (c .before .before .before .before .before .before .before .before)) (c .before .loop .mined) (c .before .loop .unfilled)
-only c = c .before .loop .inv .3 .only (block (c .before .before .before .before .before .before .before .before)) (over (c .before .before))
+in-turn-requires : tie.Need-in-turn-requires
+in-turn-requires c κs = let d = c .before .before .before .before in (over-few (over d), d .settle .ensures .0 .0)
 
--- the group is a place of the arrays
-below : (c : tie.In-loop Inv-loop μ-loop) → c .before .loop .g < 1024
-below c = omega (arith, c .loop-test .taken, over-few (over (c .before .before)))
+-- the order in which any solution is looked for
+ordered : (c : tie.After-in-turn)
+    → Ordered (c .in-turn .result) (c .before .before .before .before .before .before .before .before .before .before .before .before .before .before .args .grouped .groups) (c .before .before .before .before .before .before .before .before .before .before .before .before .before .before .args .grouped .equations) (c .before .before .before .before .before .before .before .before .before .before .before .before .before .before .args .grouped .sizes) (c .before .before .before .before .before .before .before .before .before .before .before .before .before .before .args .grouped .columns)
+ordered c = over-ordered (over (c .before .before .before .before .before)) (c .in-turn .result) (c .in-turn .ensures .whole) (c .in-turn .ensures .below) (c .in-turn .ensures .once)
 
-loop-holds : tie.Need-loop-holds Inv-loop μ-loop
-loop-holds c = (omega arith, refl, refl, telling-start)
+-- the settled groups are the first of it
+over-order : (c : tie.After-in-turn)
+    → OverGroups (block (c .before .before .before .before .before .before .before .before .before .before .before .before .before .before)) (c .before .before .before .before .before .before .before .before .before .before .before .before .before .before .args .grouped .groups) (c .before .before .before .before .before .before .before .before .before .before .before .before .before .before .args .grouped .equations) (c .before .before .before .before .before .before .before .before .before .before .before .before .before .before .args .grouped .sizes) (c .before .before .before .before .before .before .before .before .before .before .before .before .before .before .args .grouped .columns)
+    (take (c .before .before .before .before .before .settle .result .begun .count) (c .in-turn .result)) (c .before .before .before .before .before .settle .result .values) (c .before .before .before .before .before .settle .result .needs) (c .before .before .before .before .before .settle .result .rooms)
+over-order c = rw (c .in-turn .ensures .front) (over (c .before .before .before .before .before))
 
-array-read-if2 : tie.Need-array-read-if2 Inv-loop μ-loop
-array-read-if2 c = omega (arith, below c, only c .mines .whole)
+ask-any-requires : tie.Need-ask-any-requires
+ask-any-requires c κs =
+    let d = c .before .before .before .before .before .before .before .before .before .before .before .before in
+    let order = c .before .before .before .before .before .before .before in
+    (ordered order, (over d .state, (order .in-turn .ensures .few, d .settle .ensures .0 .2, refl, refl)))
 
-array-read-if2-2 : tie.Need-array-read-if2-2 Inv-loop μ-loop
-array-read-if2-2 c = omega (arith, below c, only c .frees .whole)
+-- what is marked then some solution shows, and of the settled groups all that some solution shows is marked
+found : (c : tie.After-ask-any)
+    → ShownOnly (block (c .before .before .before .before .before .before .before .before .before .before .before .before .before .before .before .before .before .before .before .before .before .before)) (c .ask-any .last .1 .1 .1 .1 .1 .1 .1 .1 .1 .0) (c .ask-any .last .1 .1 .1 .1 .1 .1 .1 .1 .1 .1 .0)
+    × SettledTold (block (c .before .before .before .before .before .before .before .before .before .before .before .before .before .before .before .before .before .before .before .before .before .before)) (take (c .before .before .before .before .before .before .before .before .before .before .before .before .before .settle .result .begun .count) (c .before .before .before .before .before .before .before .before .before .before .before .before .before .settle .result .begun .groups)) (c .ask-any .last .1 .1 .1 .1 .1 .1 .1 .1 .1 .0) (c .ask-any .last .1 .1 .1 .1 .1 .1 .1 .1 .1 .1 .0)
+found c =
+    let order = c .before .before .before .before .before .before .before .before in
+    let d = c .before .before .before .before .before .before .before .before .before .before .before .before .before in
+    let front = order .in-turn .ensures .front in
+    let o = over-order order in
+    let few = order .in-turn .ensures .few in (
+      answered-shown (order .in-turn .result) (d .settle .result .begun .count) o (ordered order) few _ (λ row m. m) (c .ask-any .ensures .1) (shown-start (block (c .before .before .before .before .before .before .before .before .before .before .before .before .before .before .before .before .before .before .before .before .before .before))),
+      rw front at (any-told (order .in-turn .result) (d .settle .result .begun .count) o (ordered order) few (c .ask-any .ensures .1)),
+    )
 
-add-if2 : tie.Need-add-if2 Inv-loop μ-loop
-add-if2 c = omega (arith, only c .mines .bits (c .before .loop .g), only c .frees .bits (c .before .loop .g))
-
-outward-requires : tie.Need-outward-requires Inv-loop μ-loop
-outward-requires c κs =
-    let s = c .before .before .before .before .before .before .before .before .before .before .before in
-    let o = over (c .before .before .before .before .before) in
-    let whole : all (λ g. ltb g (s .args .grouped .groups)) (s .args .grouped .«group_of») ≡ true =
-    rw (s .pre .1 .1) (groups-of-below (block s) (s .pre .1 .0)) in (
-      (over-few o, c .before .before .before .loop-test .taken, over-columns o),
+ask-groups-requires : tie.Need-ask-groups-requires
+ask-groups-requires c κs =
+    let s = c .before .before .before .before .before .before .before .before .before .before .before .before .before .before .before .before .before .before .before .before .before .before .before .before .before .before .before .before .before in
+    let d = c .before .before .before .before .before .before .before .before .before .before .before .before .before .before .before .before .before .before .before .before in
+    let any = c .before .before .before .before .before .before .before in
+    let o = over d in
+    let whole : all (λ g. ltb g (s .args .grouped .groups)) (s .args .grouped .«group_of») ≡ true = rw (s .pre .1 .1) (groups-of-below (block s) (s .pre .1 .0)) in (
       (
         λ j h. rw (o .is-columns) (columns-reach (s .args .cells .now) (s .args .slots .now) (s .args .rests .now) (s .args .bounds) (s .pre .0) (s .pre .1 .0) j (rw (o .is-groups) at h)),
         whole,
       ),
+      ((d .settle .ensures .0 .0, d .settle .ensures .0 .2), (block s, rw (any .ask-any .ensures .0 .0, any .ask-any .ensures .0 .1) o, found any .0)),
     )
 
-ask-group-requires : tie.Need-ask-group-requires Inv-loop μ-loop
-ask-group-requires c κs =
-    let d = c .before .before .before .before .before .before .before .before .before .before .before in
-    let loop = d .before .loop in
-    let o = over (d .before .before) in
-    let order = c .before .before .before .before .before .before .before .outward in (
-      over-ordered o (order .result) (order .ensures .0 .0) (order .ensures .1 .0) (order .ensures .1 .1),
-      (
-        rw (loop .inv .1, loop .inv .2) (over-state o),
-        (omega (arith, d .loop-test .taken), rw (order .ensures .0 .1) (over-some o (loop .g) (d .loop-test .taken)), only d .mines .whole, only d .frees .whole),
-      ),
-    )
-
-add-g : tie.Need-add-g Inv-loop μ-loop
-add-g c = search needs
-
-loop-less : tie.Need-loop-less Inv-loop μ-loop
-loop-less c = search needs
-
-loop-again : tie.Need-loop-again Inv-loop μ-loop
-loop-again c =
-    let d = c .before in
-    let loop = d .before .loop in
-    ⊎-elim
-    (λ w. (
-      omega (arith, d .loop-test .taken),
-      w .14 ∙ w .11 .ensures .0 .0 ∙ loop .inv .1,
-      w .15 ∙ w .11 .ensures .0 .1 ∙ loop .inv .2,
-      rw (w .12, w .13)
-          (telling-asked (loop .inv .3) (w .11 .ensures .1 .0 .0) (w .11 .ensures .1 .0 .1) (rw (loop .inv .1, loop .inv .2, w .3 .ensures .0 .1) at (w .11 .ensures .1 .1))),
-    ))
-    (λ w. (
-      omega (arith, d .loop-test .taken),
-      w .3 ∙ loop .inv .1,
-      w .4 ∙ loop .inv .2,
-      rw (w .1, w .2) (telling-known (loop .inv .3) (omega (arith, w .0 .left))),
-    ))
-    (c .if2 .came)
-
-returns-2 : tie.Need-returns-2 Inv-loop μ-loop
+returns-2 : tie.Need-returns-2
 returns-2 c =
-    let s = c .before .before .before .before .before .before .before .before in
-    let loop = c .before .loop in
-    let o = over (c .before .before) in
-    shown-whole (block s) (loop .inv .3 .only (block s) o) (omega (arith, over-few o, over-groups o))
-    (λ j h. loop .inv .3 .told (block s) o j (omega (arith, h, over-groups o, c .loop-test .left)))
+    let s = c .before .before .before .before .before .before .before .before .before .before .before .before .before .before .before .before .before .before .before .before .before .before .before .before .before .before .before .before .before .before in
+    let o = over (c .before .before .before .before .before .before .before .before .before .before .before .before .before .before .before .before .before .before .before .before .before) in
+    let any = c .before .before .before .before .before .before .before .before in
+    let (only, told) = c .ask-groups .ensures (block s) (rw (any .ask-any .ensures .0 .0, any .ask-any .ensures .0 .1) o) (found any .0) (found any .1) in
+    shown-whole (block s) only (omega (arith, over-few o, over-groups o)) (λ j h. told j (omega (arith, h, over-groups o)))
 
 pub shown-by-spec : {M : Type 1} → statement M
-shown-by-spec =
-    tie.close
-    (tie.spec
-    Inv-loop
-    μ-loop
-    returns
-    loop-holds
-    array-read-if2
-    array-read-if2-2
-    add-if2
-    outward-requires
-    ask-group-requires
-    add-g
-    loop-less
-    loop-again
-    returns-2)
+shown-by-spec = tie.close (tie.spec returns settle-requires in-turn-requires ask-any-requires ask-groups-requires returns-2)

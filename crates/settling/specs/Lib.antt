@@ -1,0 +1,2 @@
+-- What it means that groups are settled.
+pub mod Settling
