@@ -4,12 +4,10 @@ pub mod FirstsOfClasses
 pub mod GroupLaws
 pub mod FrontierBlocks
 -- what combine does: columns gathered and compared, groups grown
-pub mod ListedPlaces
-pub mod SameLists
 pub mod PushedColumns
 pub mod PassedEquations
 pub mod ComparedColumns
-pub mod ChosenFirsts
+pub mod GrownFirsts
 pub mod GrownGroups
 pub mod BlockColumns
 pub mod GroupedBlock
