@@ -1,34 +1,36 @@
 -- The columns of a block's cells, where the block stands between places of the arrays. A block that combine is given has cells and equations, so neither ends where
--- it begins; a cell that it hasn't stands in no equation; and cells with equal columns all stand in the first equation of that column, so a group has at
--- most eight. Rests on the laws of slots. Assumes nothing.
+-- it begins; a cell that it hasn't stands in no equation; and the cells with the column of a cell are its group, of at most eight. Rests on the laws of groups.
+-- Assumes nothing.
 use mathlib.Core.Path.{_≡_, refl, sym, ap, _∙_}
 use mathlib.Core.Logic.{inl, inr}
-use mathlib.Core.Bool.{Bool, true, false, _&&_}
-use mathlib.Core.List.{List, [], _∷_}
+use mathlib.Core.Bool.{Bool, true, false}
+use mathlib.Core.List.{List, []}
 use Prim.Native.Nat.{ℕ, _+_, _-_, _≤_, _<_}
 use native.Mathlib.Decide.{decLt}
 use native.Mathlib.Omega.{arith}
 use lib.Dec.{leb, ltb}
 use lib.ListN.{length, getD}
-use borrow.Author.Tests.{leb-true, le-leb, ltb-true}
-use Rattle.lists.specs.Lists.{range, keep, count, all, empty, has, nodup}
-use Rattle.lists.proofs.Tests.{Decided, decided, clash, and-left, and-right}
+use borrow.Author.Tests.{le-leb, ltb-true}
+use Rattle.lists.specs.Lists.{range, count, all, empty, has, nodup, same}
+use Rattle.lists.proofs.Tests.{Decided, decided, clash}
 use Rattle.lists.proofs.All.{all-at, all-has, has-all}
-use Rattle.lists.proofs.Members.{has-head, getD-has, kept-passes, kept-has, nodup-keep, range-in}
-use Rattle.lists.proofs.Counts.{length-keep, count-le, count-zero}
+use Rattle.lists.proofs.Members.{range-in}
+use Rattle.lists.proofs.Counts.{count-ext, length-keep, count-le, count-zero}
 use Rattle.lists.proofs.Kept.{keep-ext}
 use Rattle.lists.proofs.Rearranged.{length-range}
-use Rattle.lists.proofs.Among.{nodup-among, among-length}
+use Rattle.lists.proofs.Unions.{mem-has}
+use Rattle.lists.proofs.Occurrences.{not-empty}
+use Rattle.lists.proofs.PassingElements.{not-passes}
+use Rattle.lists.proofs.ReadBack.{range-made}
 use Rattle.blocks.specs.Blocks.{BlockEquation, Block}
 use Rattle.blocks.specs.BlockSets.{slotCells}
 use Rattle.blocks.specs.Places.{cellsFrom, equationsFrom, blockFrom}
 use Rattle.blocks.specs.declared.Bounds.{Bounds}
-use Rattle.blocks.proofs.Between.{equationOf, cells-none, slots-eight}
-use Rattle.groups.specs.Groups.{noCells, column, alike}
+use Rattle.blocks.proofs.Between.{equationOf, cells-none}
+use Rattle.groups.specs.Groups.{noCells, column, alike, firsts, groupOf}
 use Rattle.groups.specs.Grouping.{Combinable}
 use Rattle.groups.specs.Combining.{ColumnsAre, columnIn, alikeBy}
-use Rattle.groups.proofs.ListedPlaces.{range-read, map-read}
-use Rattle.groups.proofs.SameLists.{same-eq}
+use Rattle.groups.proofs.GroupLaws.{size-is, group-of-below, group-of-column, combinable-column, size-small}
 use Rattle.groups.proofs.PassedEquations.{length-equations}
 
 -- ---- the equations by their places
@@ -36,9 +38,7 @@ use Rattle.groups.proofs.PassedEquations.{length-equations}
 module _ (slots rests : List ℕ) (first end : ℕ) where
   pub equation-read : (i : ℕ) (d : BlockEquation) → i < end - first → getD (equationsFrom slots rests first end) i d ≡ equationOf slots rests (first + i)
   unfolding equationsFrom
-  equation-read i d h =
-      map-read (equationOf slots rests) (range first (end - first)) i d 0 (omega (arith, length-range first (end - first)))
-      ∙ ap (equationOf slots rests) (range-read first (end - first) i 0 h)
+  equation-read i d h = range-made (equationOf slots rests) first (end - first) i d h
 
   -- what passes a test of all equations
   pub equation-passes : (f : BlockEquation → Bool) → all f (equationsFrom slots rests first end) ≡ true → (i : ℕ) → i < end - first → f (equationOf slots rests (first + i)) ≡ true
@@ -75,18 +75,11 @@ module _ (cells slots rests : List ℕ) (bounds : Bounds) where
 
   module _ (h : Combinable b) where
     -- a cell of the block is on the board, and stands in one to eight equations
-    on-board : (c : ℕ) → has (b .cells) c ≡ true → c < 1024
-    on-board c e = ltb-true c 1024 (all-has (λ d. ltb d 1024) (b .cells) (h .below) c e)
+    on-board : (c : ℕ) → has (b .cells) c ≡ true → ltb c 1024 ≡ true
+    on-board = all-has (λ d. ltb d 1024) (b .cells) (h .below)
 
     in-some : (c : ℕ) → has (b .cells) c ≡ true → (1 ≤ length (columnIn slots first (end - first) c)) × (length (columnIn slots first (end - first) c) ≤ 8)
-    in-some c e =
-        let k = length (column b c) in
-        let both : leb 1 k && leb k 8 ≡ true = all-has (λ d. leb 1 (length (column b d)) && leb (length (column b d)) 8) (b .cells) (h .columns-small) c e in
-        rw (← column-is c) (leb-true 1 k (and-left (leb 1 k) (leb k 8) both), leb-true k 8 (and-right (leb 1 k) (leb k 8) both))
-
-    some-cell : (l : List ℕ) → empty l ≡ false → (c : ℕ) × (has l c ≡ true)
-    some-cell [] e = clash true refl e
-    some-cell (c ∷ l) e = (c, has-head c l)
+    in-some c e = rw (← column-is c) (combinable-column b h c e)
 
     -- neither its cells nor its equations end where they begin
     pub cells-order : bounds .«first_cell» ≤ bounds .«end_cell»
@@ -104,7 +97,7 @@ module _ (cells slots rests : List ℕ) (bounds : Bounds) where
         omega (arith, length-keep f (range 0 (end - first)), count-le f (range 0 (end - first)), length-range 0 (end - first))
 
     pub equations-order : first ≤ end
-    equations-order = let (c, e) = some-cell (b .cells) (h .some) in omega (arith, in-some c e .0, column-length c)
+    equations-order = let (c, m) = not-empty (b .cells) (h .some) in omega (arith, in-some c (mem-has (b .cells) m) .0, column-length c)
 
     -- no cell stands twice in an equation
     pub equation-once : (e : ℕ) → first ≤ e → e < end → nodup (slotCells slots e) ≡ true
@@ -125,40 +118,29 @@ module _ (cells slots rests : List ℕ) (bounds : Bounds) where
         f : ℕ → Bool
         f i = has (slotCells slots (first + i)) c
 
-        none : has (b .cells) c ≡ false → (i : ℕ) → has (range 0 (end - first)) i ≡ true → Decided (f i) → f i ≡ false
-        none e i w (inl t) = clash (has (b .cells) c) (equation-inside i c (omega (arith, range-in 0 (end - first) i w)) t) e
-        none e i w (inr t) = t
+        none : has (b .cells) c ≡ false → (i : ℕ) → has (range 0 (end - first)) i ≡ true → f i ≡ false
+        none e i w = not-passes (f i) (has (b .cells) c) (equation-inside i c (omega (arith, range-in 0 (end - first) i w))) e
 
         go : Decided (has (b .cells) c) → length (columnIn slots first (end - first) c) ≤ 8
         go (inl e) = in-some c e .1
-        go (inr e) = omega (arith, length-keep f (range 0 (end - first)), count-zero f (range 0 (end - first)) (λ i w. none e i w (decided (f i))))
+        go (inr e) = omega (arith, length-keep f (range 0 (end - first)), count-zero f (range 0 (end - first)) (none e))
 
     -- ---- the groups
 
     module _ (columns : List ℕ) (are : ColumnsAre columns (columnIn slots first (end - first))) where
-      -- cells with equal columns stand in the first equation of the column
-      group-small : (c : ℕ) → has (b .cells) c ≡ true → count (alikeBy columns c) (b .cells) ≤ 8
-      group-small c e =
-          let own = columnIn slots first (end - first) c in
-          let i = getD own 0 0 in
-          let there : has own i ≡ true = getD-has own 0 0 (omega (arith, in-some c e .0)) in
-          let u : i < end - first = omega (arith, range-in 0 (end - first) i (kept-has (λ (j : ℕ). has (slotCells slots (first + j)) c) (range 0 (end - first)) i there)) in
-          let members : (d : ℕ) → has (keep (alikeBy columns c) (b .cells)) d ≡ true → has (slotCells slots (first + i)) d ≡ true = λ d w.
-          let equal : slotCells columns c ≡ slotCells columns d = same-eq (slotCells columns c) (slotCells columns d) (kept-passes (alikeBy columns c) (b .cells) d w) in
-          let both : own ≡ columnIn slots first (end - first) d = sym (are .at c (on-board c e)) ∙ equal ∙ are .at d (on-board d (kept-has (alikeBy columns c) (b .cells) d w)) in
-          kept-passes (λ (j : ℕ). has (slotCells slots (first + j)) d) (range 0 (end - first)) i (sym (ap (λ (l : List ℕ). has l i) both) ∙ there) in
-          let within = nodup-among (keep (alikeBy columns c) (b .cells)) (slotCells slots (first + i)) (nodup-keep (alikeBy columns c) (b .cells) (h .once))
-          (equation-once (first + i) (omega arith) (omega arith)) members in
-          omega (
-            arith,
-            length-keep (alikeBy columns c) (b .cells),
-            among-length (keep (alikeBy columns c) (b .cells)) (slotCells slots (first + i)) within,
-            slots-eight slots (first + i),
-          )
-
-      pub groups-eight : all (λ c. leb (count (alikeBy columns c) (b .cells)) 8) (b .cells) ≡ true
-      groups-eight = has-all (λ c. leb (count (alikeBy columns c) (b .cells)) 8) (b .cells) (λ c e. le-leb (count (alikeBy columns c) (b .cells)) 8 (group-small c e))
-
       -- being alike by the columns in the array is being alike
       pub alike-agrees : (c d : ℕ) → ltb c 1024 ≡ true → ltb d 1024 ≡ true → alikeBy columns c d ≡ alike b c d
       alike-agrees c d u v = rw (column-is c, column-is d, are .at c (ltb-true c 1024 u), are .at d (ltb-true d 1024 v))
+
+      -- so the cells like a cell are those of its group
+      group-small : (c : ℕ) → has (b .cells) c ≡ true → count (alikeBy columns c) (b .cells) ≤ 8
+      group-small c e =
+          let g = groupOf b c in
+          let below : g < length (firsts b) = group-of-below b c e in
+          let same-cells : count (alikeBy columns c) (b .cells) ≡ count (alike b (getD (firsts b) g 0)) (b .cells) =
+          count-ext (alikeBy columns c) (alike b (getD (firsts b) g 0)) (b .cells)
+          (λ d w. alike-agrees c d (on-board c e) (on-board d w) ∙ ap (λ (l : List ℕ). same l (column b d)) (sym (group-of-column b c e))) in
+          omega (arith, same-cells, size-is b g below, size-small b h g below)
+
+      pub groups-eight : all (λ c. leb (count (alikeBy columns c) (b .cells)) 8) (b .cells) ≡ true
+      groups-eight = has-all (λ c. leb (count (alikeBy columns c) (b .cells)) 8) (b .cells) (λ c e. le-leb (count (alikeBy columns c) (b .cells)) 8 (group-small c e))

@@ -3,21 +3,22 @@
 -- says this of the cells met so far. Assumes nothing.
 use mathlib.Core.Path.{_≡_, refl, sym, _∙_}
 use mathlib.Core.Logic.{_⊎_, inl, inr}
-use mathlib.Core.Bool.{Bool, true, false, _||_, or-false}
+use mathlib.Core.Bool.{Bool, true, false, _||_}
 use mathlib.Core.List.{List, [], _∷_, _++_, append-assoc, append-nil}
 use Prim.Native.Nat.{ℕ, _≤_}
 use native.Mathlib.Omega.{arith}
 use lib.ListN.{length, length-append}
-use borrow.Author.Tests.{eq-eqb, ne-eqb, not-false}
-use Rattle.lists.specs.Lists.{keep, any, empty, has, nodup}
+use borrow.Author.Tests.{ne-eqb, not-false}
+use Rattle.lists.specs.Lists.{keep, any, empty, has, nodup, same}
 use Rattle.lists.proofs.Tests.{Decided, decided, clash, or-left, or-right}
-use Rattle.lists.proofs.Members.{has-head, has-append, kept-has, nodup-append}
+use Rattle.lists.proofs.Members.{has-head, kept-has, nodup-append}
 use Rattle.lists.proofs.Counts.{any-at, any-of}
 use Rattle.lists.proofs.Kept.{keep-append, keep-ext, some-kept}
-use Rattle.lists.proofs.Unions.{any-append, last-cases}
+use Rattle.lists.proofs.Unions.{any-append, last-cases, last-own, last-other}
 use Rattle.lists.proofs.Occurrences.{empty-nil}
 use Rattle.lists.proofs.Among.{among-left, among-nodup}
 use Rattle.lists.proofs.TurnedRound.{nodup-apart}
+use Rattle.lists.proofs.PartedLists.{same-equal, same-self}
 use Rattle.groups.specs.Groups.{addFirsts}
 
 -- a test of two numbers that is an equivalence
@@ -25,6 +26,14 @@ pub record Equivalence (like : ℕ → ℕ → Bool) : Type 0 where
   pub reflexive : (c : ℕ) → like c c ≡ true
   pub symmetric : (c d : ℕ) → like c d ≡ true → like d c ≡ true
   pub transitive : (c d e : ℕ) → like c d ≡ true → like d e ≡ true → like c e ≡ true
+
+-- numbers with equal lists
+pub same-equivalence : (f : ℕ → List ℕ) → Equivalence (λ c d. same (f c) (f d))
+same-equivalence f = record {
+  reflexive = λ c. same-self (f c);
+  symmetric = λ c d h. rw (same-equal (f c) (f d) h) (same-self (f d));
+  transitive = λ c d e h k. rw (same-equal (f c) (f d) h) k;
+}
 
 -- what is true of the first cells l of the cells met so far
 pub record FirstOf (like : ℕ → ℕ → Bool) (met l : List ℕ) : Type 0 where
@@ -89,9 +98,7 @@ module _ (like : ℕ → ℕ → Bool) (same : Equivalence like) where
           ∙ rw (
             keep-ext (has (l ++ (x ∷ []))) (has l) met (before n),
             o .in-order (front-once n),
-            has-append l (x ∷ []) x,
-            eq-eqb x x refl,
-            or-right (has l x) true refl,
+            last-own l x,
           );
     }
       where
@@ -108,7 +115,7 @@ module _ (like : ℕ → ℕ → Bool) (same : Equivalence like) where
             absurd (none c j (same .transitive x d c w v))
 
         before : nodup (met ++ (x ∷ [])) ≡ true → (c : ℕ) → has met c ≡ true → has (l ++ (x ∷ [])) c ≡ has l c
-        before n c k = has-append l (x ∷ []) c ∙ rw (ne-eqb c x (λ w. clash (has met x) (rw w at k) (new n))) (or-false (has l c))
+        before n c k = last-other l x c (λ w. clash (has met x) (rw w at k) (new n))
 
         cover : (c : ℕ) → (has met c ≡ true) ⊎ (c ≡ x) → (any (like c) l || any (like c) (x ∷ [])) ≡ true
         cover c (inl k) = or-left (any (like c) l) (any (like c) (x ∷ [])) (o .covered c k)

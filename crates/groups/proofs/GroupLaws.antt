@@ -1,7 +1,7 @@
 -- What groups are (document 01, "Solution table"): they part a block's cells; two cells are of one group exactly if their columns are equal; a group is
 -- named by its first cell, and the groups stand in the order of these; none is empty, and none has more cells than an equation that has its first cell.
 -- The idea: having equal columns is an equivalence, and `firsts` has the first cell of each class. Rests on FirstsOfClasses. Assumes nothing.
-use mathlib.Core.Path.{_≡_, refl, sym, ap, _∙_}
+use mathlib.Core.Path.{_≡_, sym, ap, _∙_}
 use mathlib.Core.Logic.{_↔_}
 use mathlib.Core.Bool.{true, false, _&&_, and-true}
 use mathlib.Core.List.{List, [], _∷_, List·Memᴰ}
@@ -28,7 +28,7 @@ use Rattle.blocks.specs.Blocks.{BlockEquation, Block}
 use Rattle.frontier.proofs.BlockLaws.{Proper}
 use Rattle.groups.specs.Groups.{noCells, column, alike, firsts, groups, groupOf, sizes}
 use Rattle.groups.specs.Grouping.{Combinable}
-use Rattle.groups.proofs.FirstsOfClasses.{Equivalence, FirstOf, first-met, firsts-of}
+use Rattle.groups.proofs.FirstsOfClasses.{Equivalence, same-equivalence, FirstOf, first-met, firsts-of}
 
 -- ---- cells with equal columns
 
@@ -38,11 +38,7 @@ alike-equal b c d = (same-equal (column b c) (column b d), λ e. rw e (same-self
 
 -- and is an equivalence
 pub alike-equivalence : (b : Block) → Equivalence (alike b)
-alike-equivalence b = record {
-  reflexive = λ c. alike-equal b c c .1 refl;
-  symmetric = λ c d h. alike-equal b d c .1 (sym (alike-equal b c d .0 h));
-  transitive = λ c d e h k. alike-equal b c e .1 (alike-equal b c d .0 h ∙ alike-equal b d e .0 k);
-}
+alike-equivalence b = same-equivalence (column b)
 
 -- ---- columns
 
@@ -189,7 +185,7 @@ module _ (b : Block) where
     group-of-below = first-within (alike b c) (firsts b) (block-firsts .covered c here)
 
     -- its column is that of the group's first cell
-    group-of-column : column b (getD (firsts b) (groupOf b c) 0) ≡ column b c
+    pub group-of-column : column b (getD (firsts b) (groupOf b c) 0) ≡ column b c
     unfolding groupOf
     group-of-column =
         sym (alike-equal b c (getD (firsts b) (groupOf b c) 0) .0 (first-passes (alike b c) (firsts b) 0 (block-firsts .covered c here)))

@@ -21,8 +21,9 @@ use Rattle.groups.specs.Groups.{column, alike, addFirsts, firsts, groups
 use Rattle.groups.specs.Grouping.{Combinable, grouped}
 use Rattle.groups.specs.Combining.{ColumnsAre, columnIn, alikeBy, GroupsAre}
 use Rattle.groups.specs.declared.Grouped.{Grouped}
-use Rattle.groups.proofs.ChosenFirsts.{firsts-chosen}
-use Rattle.groups.proofs.GrownGroups.{alike-same, groups-firsts, groups-few, groups-cells, groups-ext}
+use Rattle.groups.proofs.FirstsOfClasses.{same-equivalence, first-met, firsts-of}
+use Rattle.groups.proofs.GroupLaws.{alike-equivalence}
+use Rattle.groups.proofs.GrownGroups.{groups-firsts, groups-few, groups-cells, groups-ext}
 use Rattle.groups.proofs.PassedEquations.{length-equations, needOf, roomOf, isNegative}
 use Rattle.groups.proofs.BlockColumns.{block-cells, block-equations, column-is, columns-few, alike-agrees}
 
@@ -47,11 +48,11 @@ module _ (cells slots rests : List ℕ) (bounds : Bounds) (h : Combinable (block
     -- the groups are those of the block
     groups-are : GroupsAre (alike b) (b .cells) n first-cells group-sizes group-of
     groups-are =
-        groups-ext (λ c. ltb c 1024) (alike-same (slotCells columns)) (alike b) (alike-agrees cells slots rests bounds h columns are) (b .cells) (h .below)
+        groups-ext (λ c. ltb c 1024) (same-equivalence (slotCells columns)) (alike b) (alike-agrees cells slots rests bounds h columns are) (b .cells) (h .below)
         (rw (← block-cells cells slots rests bounds) at r)
 
     pub first-cells-on-board : Cells first-cells n
-    first-cells-on-board = groups-cells (alike-same (column b)) groups-are (h .few-cells) (h .below)
+    first-cells-on-board = groups-cells (alike-equivalence b) groups-are (h .few-cells) (h .below)
 
     abbrev fs : List ℕ
     fs = addFirsts (alike b) [] (b .cells)
@@ -67,11 +68,11 @@ module _ (cells slots rests : List ℕ) (bounds : Bounds) (h : Combinable (block
     columns-copied out is =
         let all-slots = joined (map (λ (c : ℕ). pad 8 65535 (column b c)) fs) in
         let same : map (λ (c : ℕ). pad 8 65535 (slotCells columns c)) (take n first-cells) ≡ map (λ (c : ℕ). pad 8 65535 (column b c)) fs =
-        ap (map (λ (c : ℕ). pad 8 65535 (slotCells columns c))) (groups-firsts (alike-same (column b)) groups-are)
+        ap (map (λ (c : ℕ). pad 8 65535 (slotCells columns c))) (groups-firsts (alike-equivalence b) groups-are)
         ∙ map-ext (λ (c : ℕ). pad 8 65535 (slotCells columns c)) (λ (c : ℕ). pad 8 65535 (column b c)) fs
-        (λ c e. ap (pad 8 65535) (column-held c (firsts-chosen (alike-same (column b)) (b .cells) .inside c e))) in
+        (λ c e. ap (pad 8 65535) (column-held c (first-met (alike b) (alike-equivalence b) (firsts-of (alike b) (alike-equivalence b) (b .cells)) c e))) in
         let few : length all-slots ≤ 8192 =
-        omega (arith, length-joined (λ (c : ℕ). pad 8 65535 (column b c)) 8 fs slots-whole, groups-are .counted, groups-few (alike-same (column b)) groups-are, h .few-cells) in
+        omega (arith, length-joined (λ (c : ℕ). pad 8 65535 (column b c)) 8 fs slots-whole, groups-are .counted, groups-few (alike-equivalence b) groups-are, h .few-cells) in
         is
         ∙ ap (λ (l : List (List ℕ)). sets (replicate 8192 65535) 0 (joined l)) same
         ∙ ap (λ (l : List ℕ). sets l 0 all-slots) (pad-nil 8192 65535)

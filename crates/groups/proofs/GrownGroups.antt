@@ -10,31 +10,23 @@ use native.Mathlib.Omega.{arith}
 use lib.Dec.{leb, ltb}
 use lib.ListN.{length, getD, set, take, replicate, length-append, length-map, List·getD-eq-default}
 use borrow.Author.Tests.{leb-true, ltb-true, lt-ltb, le-ltb}
-use Rattle.lists.specs.Lists.{range, count, any, all, has, same, firstPlace, pad}
+use Rattle.lists.specs.Lists.{range, count, any, all, has, firstPlace, pad}
 use Rattle.lists.proofs.Tests.{Decided, decided}
 use Rattle.lists.proofs.All.{all-has}
 use Rattle.lists.proofs.Members.{has-append, getD-has}
 use Rattle.lists.proofs.Counts.{count-append, length-keep}
-use Rattle.lists.proofs.FirstPlaces.{first-within-any, first-place-within}
+use Rattle.lists.proofs.FirstPlaces.{first-within-any, first-place-within, first-place-front, first-place-behind, first-place-ext}
 use Rattle.lists.proofs.Arrays.{pad-nil, pad-take, pad-read, pad-set, pad-push, length-pad}
 use Rattle.lists.proofs.Joined.{map-ext}
 use Rattle.lists.proofs.Kept.{keep-ext}
 use Rattle.lists.proofs.Rearranged.{length-range}
+use Rattle.lists.proofs.Unions.{last-own, last-other}
+use Rattle.lists.proofs.PlacesAndRanges.{map-read, set-mapped, range-read}
 use Rattle.blocks.specs.Places.{Cells}
 use Rattle.groups.specs.Groups.{addFirsts}
 use Rattle.groups.specs.Combining.{GroupsAre}
-use Rattle.groups.proofs.ListedPlaces.{has-push-self, has-push-other, range-read, map-read, set-mapped, first-place-append, first-place-behind, first-place-ext}
-use Rattle.groups.proofs.SameLists.{same-refl, same-sym, same-trans}
-use Rattle.groups.proofs.ChosenFirsts.{firsts-there, firsts-new, firsts-few, firsts-ext, Equivalence, firsts-chosen, alikes, sizes-there, sizes-new}
-
--- having equal columns is an equivalence
-pub alike-same : (column : ℕ → List ℕ) → Equivalence (λ c d. same (column c) (column d))
-alike-same column =
-    record {
-      own = λ c. same-refl (column c);
-      turned = λ c d. same-sym (column c) (column d);
-      through = λ c d e. same-trans (column c) (column d) (column e);
-    }
+use Rattle.groups.proofs.FirstsOfClasses.{Equivalence, FirstOf, first-met, firsts-of}
+use Rattle.groups.proofs.GrownFirsts.{firsts-there, firsts-new, firsts-ext, alikes, sizes-there, sizes-new}
 
 -- the group of a cell, given the cells and the first cells
 abbrev groupIn : (ℕ → ℕ → Bool) → List ℕ → List ℕ → ℕ → ℕ
@@ -54,20 +46,23 @@ module _ {like : ℕ → ℕ → Bool} (same : Equivalence like) {cells : List �
   abbrev fs : List ℕ
   fs = addFirsts like [] cells
 
+  found : FirstOf like cells fs
+  found = firsts-of like same cells
+
   pub groups-firsts : take n firsts ≡ fs
   groups-firsts = rw (r .counted, r .first-cells) (pad-take 1024 0 fs)
 
   pub groups-few : n ≤ length cells
-  groups-few = omega (arith, r .counted, firsts-few like cells)
+  groups-few = omega (arith, r .counted, found .few)
 
   -- the first cells are on the board
   pub groups-cells : length cells ≤ 1024 → all (λ c. ltb c 1024) cells ≡ true → Cells firsts n
   groups-cells few below =
       record {
-        whole = rw (r .first-cells) (length-pad 1024 0 fs (omega (arith, firsts-few like cells)));
+        whole = rw (r .first-cells) (length-pad 1024 0 fs (omega (arith, found .few)));
         few = omega (arith, groups-few);
         below = λ i u.
-            let inside = firsts-chosen same cells .inside (getD fs i 0) (getD-has fs i 0 (omega (arith, r .counted))) in
+            let inside = first-met like same found (getD fs i 0) (getD-has fs i 0 (omega (arith, r .counted))) in
             rw (r .first-cells, pad-read 1024 0 fs i) (ltb-true (getD fs i 0) 1024 (all-has (λ c. ltb c 1024) cells below (getD fs i 0) inside));
       }
 
@@ -78,7 +73,7 @@ module _ {like : ℕ → ℕ → Bool} (same : Equivalence like) {cells : List �
       go : Dec (g < length fs) → getD (map (alikes like cells) fs) g 0 ≤ 8
       go (yes u) =
           let f = getD fs g 0 in
-          let inside : has cells f ≡ true = firsts-chosen same cells .inside f (getD-has fs g 0 u) in
+          let inside : has cells f ≡ true = first-met like same found f (getD-has fs g 0 u) in
           let there : has (cells ++ rest) f ≡ true = has-append cells rest f ∙ rw inside in
           rw (map-read (alikes like cells) fs g 0 0 u)
           (omega (
@@ -111,14 +106,14 @@ module _ {like : ℕ → ℕ → Bool} (same : Equivalence like) {cells : List �
         (λ k u other. rw (range-read 0 1024 k 0 (omega (arith, length-range 0 1024))) (elsewhere (0 + k) (λ e. other (omega arith)))))
       where
         here : (d : ℕ) → d ≡ c → g ≡ groupIn like more gs d
-        here d e = rw (e, has-push-self cells c) (sym own)
+        here d e = rw (e, last-own cells c) (sym own)
 
         elsewhere : (d : ℕ) → d ≢ c → groupIn like cells fs d ≡ groupIn like more gs d
         elsewhere d other = go (decided (has cells d))
           where
             go : Decided (has cells d) → groupIn like cells fs d ≡ groupIn like more gs d
-            go (inl a) = rw (has-push-other cells c d other, a) (sym (others d a))
-            go (inr a) = rw (has-push-other cells c d other, a)
+            go (inl a) = rw (last-other cells c d other, a) (sym (others d a))
+            go (inr a) = rw (last-other cells c d other, a)
 
     abbrev counts : List ℕ
     counts = map (alikes like cells) fs
@@ -152,8 +147,8 @@ module _ {like : ℕ → ℕ → Bool} (same : Equivalence like) {cells : List �
           counted = omega (arith, r .counted, length-append fs (c ∷ []), ap length next);
           first-cells = rw (r .first-cells, r .counted) (pad-push 1024 0 fs c (omega (arith, r .counted))) ∙ ap (pad 1024 0) next;
           cells-each = grown ∙ ap (pad 1024 0) (sizes-new same cells c none) ∙ ap (λ (l : List ℕ). pad 1024 0 (map (alikes like more) l)) next;
-          of-cell = of-more (fs ++ (c ∷ [])) (first-place-behind (like c) fs (c ∷ []) none ∙ rw (same .own c) (omega (arith, r .counted)))
-              (λ d h. first-place-append (like d) fs (c ∷ []) (firsts-chosen same cells .covered d h))
+          of-cell = of-more (fs ++ (c ∷ [])) (first-place-behind (like c) fs (c ∷ []) none ∙ rw (same .reflexive c) (omega (arith, r .counted)))
+              (λ d h. first-place-front (like d) fs (c ∷ []) (found .covered d h))
               ∙ ap (λ (l : List ℕ). map (groupIn like more l) (range 0 1024)) next;
         }
 
@@ -165,7 +160,7 @@ module _ (on : ℕ → Bool) {like : ℕ → ℕ → Bool} (same : Equivalence l
   those = addFirsts like [] cells
 
   on-first : (c : ℕ) → has those c ≡ true → on c ≡ true
-  on-first c e = all-has on cells all-on c (firsts-chosen same cells .inside c e)
+  on-first c e = all-has on cells all-on c (first-met like same (firsts-of like same cells) c e)
 
   firsts-same : those ≡ addFirsts other [] cells
   firsts-same = firsts-ext on like other agree cells all-on

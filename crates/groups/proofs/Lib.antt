@@ -3,12 +3,11 @@
 pub mod FirstsOfClasses
 pub mod GroupLaws
 pub mod FrontierBlocks
--- what combine does: columns gathered, groups grown
-pub mod ListedPlaces
-pub mod SameLists
+-- what combine does: columns gathered and compared, groups grown
 pub mod PushedColumns
 pub mod PassedEquations
-pub mod ChosenFirsts
+pub mod ComparedColumns
+pub mod GrownFirsts
 pub mod GrownGroups
 pub mod BlockColumns
 pub mod GroupedBlock

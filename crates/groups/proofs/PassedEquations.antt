@@ -2,7 +2,7 @@
 -- it has, and whether a remainder is negative. An equation with a negative remainder needs 0, which the array has there already. Rests on the laws of an
 -- array with a count. Assumes nothing.
 use mathlib.Core.Path.{_≡_, refl, sym, ap, _∙_}
-use mathlib.Core.Bool.{Bool, true, false}
+use mathlib.Core.Bool.{Bool, true, false, or-false}
 use mathlib.Core.List.{List, [], _∷_, _++_, map, map-append}
 use Prim.Native.Nat.{ℕ, suc, _+_, _-_, _≤_, _<_}
 use native.Mathlib.Omega.{arith}
@@ -11,14 +11,17 @@ use lib.ListN.{length, getD, set, replicate, length-map}
 use borrow.Author.Tests.{lt-ltb, le-ltb}
 use Rattle.lists.specs.Lists.{range, any, all, pad}
 use Rattle.lists.proofs.Arrays.{pad-nil, pad-push}
-use Rattle.lists.proofs.Members.{range-in, range-last}
+use Rattle.lists.proofs.Tests.{or-right}
+use Rattle.lists.proofs.Members.{range-last}
 use Rattle.lists.proofs.Rearranged.{length-range}
+use Rattle.lists.proofs.Unions.{any-push}
+use Rattle.lists.proofs.PlacesAndRanges.{all-places, range-append}
 use Rattle.lists.proofs.Storing.{pad-filler}
+use Rattle.lists.proofs.ReadBack.{range-made}
 use Rattle.blocks.specs.Blocks.{BlockEquation}
 use Rattle.blocks.specs.BlockSets.{slotCells}
 use Rattle.blocks.specs.Places.{Cells, cellsFrom, equationsFrom}
 use Rattle.blocks.proofs.Between.{equationOf, equations-none}
-use Rattle.groups.proofs.ListedPlaces.{any-push-passes, any-push-fails, range-append, all-mapped}
 
 -- ---- one place more
 
@@ -50,8 +53,9 @@ cells-parted cells first i end a b =
 pub cells-on-board : (cells : List ℕ) (first i end : ℕ) → Cells cells end → i ≤ end → all (λ c. ltb c 1024) (cellsFrom cells first i) ≡ true
 unfolding cellsFrom
 cells-on-board cells first i end c h =
-    all-mapped (λ d. ltb d 1024) (λ (k : ℕ). getD cells k 0) (range first (i - first))
-    (λ k e. let (a, b) = range-in first (i - first) k e in lt-ltb (getD cells k 0) 1024 (c .below k (omega arith)))
+    all-places (λ d. ltb d 1024) (cellsFrom cells first i) 0 (λ k u.
+    let inside : k < i - first = omega (arith, length-cells cells first i) in
+    rw (range-made (λ (j : ℕ). getD cells j 0) first (i - first) k 0 inside) (lt-ltb (getD cells (first + k) 0) 1024 (c .below (first + k) (omega arith))))
 
 module _ (slots rests : List ℕ) (first e : ℕ) where
   pub length-equations : length (equationsFrom slots rests first e) ≡ e - first
@@ -119,7 +123,7 @@ module _ (slots rests : List ℕ) (first e : ℕ) (h : first ≤ e) (room : e < 
       (record {
         needed = p .needed ∙ pushed-zero needOf so-far new (e - first) at (omega arith) (omega arith);
         counted = counted-next;
-        some-negative = sym (any-push-passes isNegative so-far new (lt-ltb (getD rests e 0) 8 less));
+        some-negative = sym (any-push isNegative so-far new ∙ or-right (any isNegative so-far) (isNegative new) (lt-ltb (getD rests e 0) 8 less));
       })
 
   pub passed-next : 8 ≤ getD rests e 0 → Passed (equationsFrom slots rests first (e + 1)) (set needs (e - first) (getD rests e 0 - 8)) rooms′ negative
@@ -128,5 +132,5 @@ module _ (slots rests : List ℕ) (first e : ℕ) (h : first ≤ e) (room : e < 
       (record {
         needed = rw (p .needed) (pushed needOf so-far new (e - first) at (omega arith));
         counted = counted-next;
-        some-negative = p .some-negative ∙ sym (any-push-fails isNegative so-far new (le-ltb (getD rests e 0) 8 more));
+        some-negative = p .some-negative ∙ sym (any-push isNegative so-far new ∙ rw (le-ltb (getD rests e 0) 8 more) (or-false (any isNegative so-far)));
       })

@@ -6,10 +6,11 @@ use mathlib.Core.Logic.{inl, inr, _≢_}
 use mathlib.Core.Bool.{Bool, true, false, cond}
 use mathlib.Core.List.{List, [], _∷_, _++_}
 use Prim.Native.Nat.{ℕ, _+_, _*_, _≤_, _<_}
+use native.Mathlib.Numerals.{add-one}
 use native.Mathlib.Omega.{arith}
 use lib.Dec.{ltb, eqb}
 use lib.ListN.{length, getD, take, set, replicate, length-append, length-replicate}
-use lib.Seq.{sets, length-sets}
+use lib.Seq.{sets, take-suc, length-sets}
 use borrow.Author.Tests.{ltb-true, lt-ltb, eqb-true, eqb-false}
 use Rattle.lists.specs.Lists.{range, all, has, nodup, pad}
 use Rattle.lists.proofs.Tests.{Decided, decided}
@@ -17,13 +18,14 @@ use Rattle.lists.proofs.All.{all-at, all-push, has-all, all-has}
 use Rattle.lists.proofs.Members.{kept-has, range-in}
 use Rattle.lists.proofs.Kept.{keep-range-push, keep-range-pass}
 use Rattle.lists.proofs.Arrays.{pad-push, pad-take}
+use Rattle.lists.proofs.Unions.{last-own, last-other}
+use Rattle.lists.proofs.PlacesAndRanges.{nodup-before, keep-range-within}
 use Rattle.grid.specs.Window.{listed}
 use Rattle.grid.specs.declared.window.Neighbours.{Neighbours}
 use Rattle.blocks.specs.BlockSets.{slotCells}
 use Rattle.blocks.specs.Places.{Slots}
 use Rattle.frontier.proofs.SlotLaws.{slots-filled, put-there, put-elsewhere}
 use Rattle.groups.specs.Combining.{ColumnsAre, columnIn, columnWith}
-use Rattle.groups.proofs.ListedPlaces.{has-push-self, has-push-other, take-next, nodup-before, keep-range-within}
 
 -- ---- a number put behind a list of at most eight
 
@@ -74,17 +76,17 @@ module _ {before cells : List ℕ} {place : ℕ} (p : Pushable before cells plac
       new = slotCells columns x ++ (place ∷ [])
 
       passed : take (k + 1) cells ≡ take k cells ++ (x ∷ [])
-      passed = rw at (take-next cells k 0 inside)
+      passed = rw (add-one k, at) (take-suc cells k 0 inside)
 
       go : (c : ℕ) → c < 1024 → Decided (eqb c x) → slotCells after c ≡ columnWith before (take (k + 1) cells) place c
       go c u (inl e) =
           let w : c ≡ x = eqb-true c x e in
           let numbers : all (λ d. ltb d 1024) new ≡ true =
           all-push (λ d. ltb d 1024) (slotCells columns x) place (rw own (p .slots .below x push-on-board)) (lt-ltb place 1024 (p .small)) in
-          rw (passed, w, has-push-self (take k cells) x, is) (put-there columns new x (so-far .whole) push-on-board longer numbers ∙ rw own)
+          rw (passed, w, last-own (take k cells) x, is) (put-there columns new x (so-far .whole) push-on-board longer numbers ∙ rw own)
       go c u (inr e) =
           let other : c ≢ x = eqb-false c x e in
-          rw (passed, has-push-other (take k cells) x c other, is) (put-elsewhere columns new x (so-far .whole) push-on-board longer c other ∙ so-far .at c u)
+          rw (passed, last-other (take k cells) x c other, is) (put-elsewhere columns new x (so-far .whole) push-on-board longer c other ∙ so-far .at c u)
 
 -- ---- the columns in the equations that begin at a place
 

@@ -2,6 +2,7 @@
 // slots; then each cell, in the block's order, joins the first group whose first cell has an equal column, or begins a group. What the search needs is kept
 // by group: its size, its column; and by equation: what it needs, and how many cells it has.
 use blocks::Bounds;
+use blocks::NO_CELL;
 use blocks::put_slots;
 use blocks::slots_at;
 use grid::window::Neighbours;
@@ -13,7 +14,7 @@ ghost use Prim.Native.Nat.{ℕ, _-_, _*_, _≤_, _<_};
 ghost use lib.Dec.{leb, ltb};
 ghost use lib.ListN.{length, take, replicate};
 ghost use lib.Seq.{sets};
-ghost use Rattle.lists.specs.Lists.{any, all, count, nodup, same, firstPlace, joined, pad};
+ghost use Rattle.lists.specs.Lists.{any, all, count, nodup, firstPlace, joined, pad};
 ghost use Rattle.blocks.specs.Blocks.{BlockEquation};
 ghost use Rattle.blocks.specs.BlockSets.{slotCells};
 ghost use Rattle.blocks.specs.Places.{OnBoard, Slots, Cells, Arrays, cellsFrom, equationsFrom, blockFrom};
@@ -84,20 +85,20 @@ fn fill_columns(slots: &[u16; 8192], first: usize, end: usize, columns: &mut [u1
     }
 }
 
-// Are two lists equal?
-fn same_list(a: Neighbours, b: Neighbours) -> bool
-    requires { ⌜ (a .len ≤ 8) × (b .len ≤ 8) ⌝ }
-    ensures { λ r. ⌜ r ≡ same (cellsIn a) (cellsIn b) ⌝ }
+// Are the columns of two cells equal? The first slots that differ decide, or the first empty ones: mostly the first of all.
+fn same_columns(columns: &[u16; 8192], a: usize, b: usize) -> bool
+    requires { ⌜ (length (now columns) ≡ 8192) × (a < 1024) × (b < 1024) ⌝ }
+    ensures { λ r. ⌜ r ≡ alikeBy (now (columns .entry)) a b ⌝ }
 {
-    let left = a.cells;
-    let right = b.cells;
-    let len = a.len;
-    if len != b.len {
-        return false;
-    }
-    for k in 0..len {
-        if left[k] != right[k] {
+    let left = a * 8;
+    let right = b * 8;
+    for k in 0..8 {
+        let own = columns[left + k];
+        if own != columns[right + k] {
             return false;
+        }
+        if own == NO_CELL {
+            return true;
         }
     }
     true
@@ -108,9 +109,8 @@ fn first_alike(columns: &[u16; 8192], firsts: &[u16; 1024], n: usize, cell: usiz
     requires { ⌜ (length (now columns) ≡ 8192) × Cells (now firsts) n × (cell < 1024) ⌝ }
     ensures { λ r. ⌜ r ≡ firstPlace (alikeBy (now (columns .entry)) cell) (take n (now (firsts .entry))) ⌝ }
 {
-    let own = slots_at(columns, cell);
     for g in 0..n {
-        if same_list(own, slots_at(columns, wide(firsts[g]))) {
+        if same_columns(columns, cell, wide(firsts[g])) {
             return g;
         }
     }

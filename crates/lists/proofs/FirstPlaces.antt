@@ -1,17 +1,18 @@
 -- The place of the first element that passes a test: it lies in the list exactly where some element passes, that element passes, and none before it
--- does. By recursion on the list. Assumes nothing.
-use mathlib.Core.Path.{_≡_, refl, _∙_}
+-- does. In two lists one after the other it lies in the front one where one passes there. By recursion on the list. Assumes nothing.
+use mathlib.Core.Path.{_≡_, refl, ap, _∙_}
 use mathlib.Core.Logic.{inl, inr}
 use mathlib.Core.Bool.{Bool, true, false, cond, _||_}
-use mathlib.Core.List.{List, [], _∷_}
+use mathlib.Core.List.{List, [], _∷_, _++_}
 use Prim.Native.Nat.{ℕ, zero, suc, _+_, _≤_, _<_}
 use native.Mathlib.Nat.{not-suc-le-zero, le-of-suc-le-suc}
 use native.Mathlib.Omega.{arith}
 use lib.Dec.{ltb, leb·suc-suc}
 use lib.ListN.{length, getD, drop}
 use borrow.Author.Tests.{lt-ltb, ltb-true}
-use Rattle.lists.specs.Lists.{any, firstPlace}
-use Rattle.lists.proofs.Tests.{Decided, decided, clash}
+use Rattle.lists.specs.Lists.{any, has, firstPlace}
+use Rattle.lists.proofs.Tests.{Decided, decided, clash, or-false-left, or-false-right}
+use Rattle.lists.proofs.Members.{has-head, has-tail}
 
 pub first-within-any : (f : ℕ → Bool) (l : List ℕ) → ltb (firstPlace f l) (length l) ≡ any f l
 first-within-any f [] = refl
@@ -59,3 +60,25 @@ module _ {A : Type 0} (f : A → Bool) where
 
     pub first-place-next : f x ≡ false → k + firstPlace f (drop k l) ≡ k + 1 + firstPlace f r
     first-place-next h = rw (at, h) (omega arith)
+
+  -- ---- two lists one after the other
+
+  -- the first passes in the front one
+  pub first-place-front : (l r : List A) → any f l ≡ true → firstPlace f (l ++ r) ≡ firstPlace f l
+  first-place-front [] r h = clash false h refl
+  first-place-front (x ∷ l) r h = go (decided (f x)) (first-place-front l r)
+    where
+      go : Decided (f x) → (any f l ≡ true → firstPlace f (l ++ r) ≡ firstPlace f l) → firstPlace f (x ∷ (l ++ r)) ≡ firstPlace f (x ∷ l)
+      go (inl e) ih = rw e
+      go (inr e) ih = rw e (ap suc (ih (rw e at h)))
+
+  -- none passes there
+  pub first-place-behind : (l r : List A) → any f l ≡ false → firstPlace f (l ++ r) ≡ length l + firstPlace f r
+  first-place-behind [] r h = omega arith
+  first-place-behind (x ∷ l) r h =
+      rw (or-false-left (f x) (any f l) h) (omega (arith, first-place-behind l r (or-false-right (f x) (any f l) h)))
+
+-- two tests that agree on the list
+pub first-place-ext : (f g : ℕ → Bool) (l : List ℕ) → ((c : ℕ) → has l c ≡ true → f c ≡ g c) → firstPlace f l ≡ firstPlace g l
+first-place-ext f g [] h = refl
+first-place-ext f g (x ∷ l) h = rw (h x (has-head x l), first-place-ext f g l (λ c e. h c (has-tail x l c e)))

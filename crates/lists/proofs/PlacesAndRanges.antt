@@ -1,14 +1,15 @@
 -- What stands at which place: an element of a list at some place, a list mapped, a test on all elements or a count of them place by place, and a list without
--- repetition, in which a number has one place. And parts of a range. By recursion on the lists. Assumes nothing.
+-- repetition, in which a number has one place. And ranges, read and parted. By recursion on the lists. Assumes nothing.
 use mathlib.Core.Path.{_≡_, refl, sym, ap, _∙_}
+use mathlib.Core.Logic.{_≢_}
 use mathlib.Core.Bool.{Bool, true, false, _&&_}
 use mathlib.Core.List.{List, [], _∷_, _++_, map, append-nil, List·Memᴰ, List·Memᴰ·head, List·Memᴰ·tail}
 use Prim.Native.Nat.{ℕ, zero, suc, _+_, _-_, _≤_, _<_}
 use native.Mathlib.Nat.{not-suc-le-zero, le-of-suc-le-suc}
 use native.Mathlib.Omega.{arith}
 use lib.Dec.{leb, ltb}
-use lib.ListN.{length, getD}
-use borrow.Author.Tests.{le-leb, lt-leb, lt-ltb, le-ltb}
+use lib.ListN.{length, getD, take, set, length-append}
+use borrow.Author.Tests.{ne-eqb, le-leb, lt-leb, lt-ltb, le-ltb}
 use Rattle.lists.specs.Lists.{range, keep, count, all, has, nodup}
 use Rattle.lists.proofs.Tests.{clash}
 use Rattle.lists.proofs.Members.{getD-has, nodup-head, nodup-tail, range-in}
@@ -39,6 +40,19 @@ map-read f [] i d e h = absurd (not-suc-le-zero h)
 map-read f (x ∷ l) zero d e h = refl
 map-read f (x ∷ l) (suc i) d e h = map-read f l i d e (le-of-suc-le-suc h)
 
+-- one element is written anew, and the functions agree on the others
+pub set-mapped : (f g : ℕ → ℕ) (l : List ℕ) (i v : ℕ) → i < length l → v ≡ g (getD l i 0)
+    → ((k : ℕ) → k < length l → k ≢ i → f (getD l k 0) ≡ g (getD l k 0)) → set (map f l) i v ≡ map g l
+set-mapped f g [] i v h at others = absurd (not-suc-le-zero h)
+set-mapped f g (x ∷ l) zero v h at others = rw at (ap (λ (r : List ℕ). g x ∷ r) (rest l (λ k u. others (suc k) (omega arith) (λ e. absurd (omega arith)))))
+  where
+    rest : (r : List ℕ) → ((k : ℕ) → k < length r → f (getD r k 0) ≡ g (getD r k 0)) → map f r ≡ map g r
+    rest [] same = refl
+    rest (y ∷ r) same = rw (same 0 (omega arith), rest r (λ k u. same (suc k) (omega arith)))
+set-mapped f g (x ∷ l) (suc i) v h at others =
+    rw (others 0 (omega arith) (λ e. absurd (omega arith)))
+    (ap (λ (r : List ℕ). g x ∷ r) (set-mapped f g l i v (le-of-suc-le-suc h) at (λ k u d. others (suc k) (omega arith) (λ e. d (omega arith)))))
+
 -- where no number stands twice, one number has one place
 pub nodup-place : (l : List ℕ) → nodup l ≡ true → (i j d : ℕ) → i < length l → j < length l → getD l i d ≡ getD l j d → i ≡ j
 nodup-place [] n i j d a b e = absurd (not-suc-le-zero a)
@@ -47,7 +61,21 @@ nodup-place (x ∷ l) n zero (suc j) d a b e = clash (has l x) (rw e (getD-has l
 nodup-place (x ∷ l) n (suc i) zero d a b e = clash (has l x) (rw (← e) (getD-has l i d (le-of-suc-le-suc a))) (nodup-head x l n)
 nodup-place (x ∷ l) n (suc i) (suc j) d a b e = ap suc (nodup-place l (nodup-tail x l n) i j d (le-of-suc-le-suc a) (le-of-suc-le-suc b) e)
 
--- ---- parts of a range
+-- and the number at a place does not stand before it
+pub nodup-before : (l : List ℕ) (k : ℕ) → nodup l ≡ true → k < length l → has (take k l) (getD l k 0) ≡ false
+nodup-before [] k n h = absurd (not-suc-le-zero h)
+nodup-before (x ∷ l) zero n h = refl
+nodup-before (x ∷ l) (suc k) n h =
+    let there = getD-has l k 0 (le-of-suc-le-suc h) in
+    let other : getD l k 0 ≢ x = (λ w. clash (has l x) (rw w at there) (nodup-head x l n)) in
+    rw (ne-eqb (getD l k 0) x other) (nodup-before l k (nodup-tail x l n) (le-of-suc-le-suc h))
+
+-- ---- ranges and their parts
+
+pub range-read : (a k i d : ℕ) → i < k → getD (range a k) i d ≡ a + i
+range-read a zero i d h = absurd (not-suc-le-zero h)
+range-read a (suc k) zero d h = omega arith
+range-read a (suc k) (suc i) d h = range-read (suc a) k i d (le-of-suc-le-suc h) ∙ omega arith
 
 pub range-append : (a m n : ℕ) → range a (m + n) ≡ range a m ++ range (a + m) n
 range-append a zero n = let e : 0 + n ≡ n = omega arith in let d : a + 0 ≡ a = omega arith in rw (e, d)
@@ -55,6 +83,14 @@ range-append a (suc m) n =
     let e : suc m + n ≡ suc (m + n) = omega arith in
     let d : suc a + m ≡ a + suc m = omega arith in
     rw (e, ← d) (ap (λ (l : List ℕ). a ∷ l) (range-append (suc a) m n))
+
+-- more is kept of a longer range
+pub keep-range-within : (f : ℕ → Bool) (k m : ℕ) → k ≤ m → length (keep f (range 0 k)) ≤ length (keep f (range 0 m))
+keep-range-within f k m h =
+    let parts : k + (m - k) ≡ m = omega arith in
+    let split : keep f (range 0 m) ≡ keep f (range 0 k) ++ keep f (range (0 + k) (m - k)) =
+    ap (λ (n : ℕ). keep f (range 0 n)) (sym parts) ∙ ap (keep f) (range-append 0 k (m - k)) ∙ keep-append f (range 0 k) (range (0 + k) (m - k)) in
+    omega (arith, ap length split, length-append (keep f (range 0 k)) (keep f (range (0 + k) (m - k))))
 
 -- the numbers of a range from v on, k of them
 pub range-part : (n v k : ℕ) → v + k ≤ n → keep (λ x. leb v x && ltb x (v + k)) (range 0 n) ≡ range v k

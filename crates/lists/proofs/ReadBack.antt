@@ -2,20 +2,19 @@
 -- what stood there before. General laws of lists, over any elements. Assumes nothing.
 use mathlib.Core.Path.{_≡_, ap, _∙_}
 use mathlib.Core.List.{List, _++_, map}
-use Prim.Native.Nat.{ℕ, zero, suc, _+_, _-_, _≤_, _<_}
-use native.Mathlib.Nat.{not-suc-le-zero}
+use Prim.Native.Nat.{ℕ, _+_, _-_, _≤_, _<_}
 use native.Mathlib.Omega.{arith}
 use lib.ListN.{length, getD, take, drop, List·getD-append}
 use lib.Seq.{sets, sets-eq, getD-append-add, getD-drop}
 use Rattle.lists.specs.Lists.{range}
+use Rattle.lists.proofs.Rearranged.{length-range}
+use Rattle.lists.proofs.PlacesAndRanges.{map-read, range-read}
 use Rattle.lists.proofs.Stores.{slice-stored}
 
 module _ {A : Type 0} where
   -- a list made over a range has at each place what is made of that number
   pub range-made : (f : ℕ → A) (a k i : ℕ) (d : A) → i < k → getD (map f (range a k)) i d ≡ f (a + i)
-  range-made f a zero i d h = absurd (not-suc-le-zero h)
-  range-made f a (suc k) zero d h = let e : a ≡ a + 0 = omega arith in ap f e
-  range-made f a (suc k) (suc i) d h = let e : suc a + i ≡ a + suc i = omega arith in range-made f (suc a) k i d (omega arith) ∙ ap f e
+  range-made f a k i d h = map-read f (range a k) i 0 d (omega (arith, length-range a k)) ∙ ap f (range-read a k i 0 h)
 
   -- a list stored at the front of a longer one
   module _ (l xs : List A) (fits : length xs ≤ length l) where

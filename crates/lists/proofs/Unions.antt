@@ -2,8 +2,8 @@
 -- two lists with a number in common (`meets`). For elements of any type, membership is the library's `List·Memᴰ`, a place at which the element
 -- stands; for numbers it says the same as the test `has`. Assumes nothing.
 use mathlib.Core.Path.{_≡_, refl, sym, ap, _∙_}
-use mathlib.Core.Logic.{_⊎_, inl, inr}
-use mathlib.Core.Bool.{Bool, true, false, not, _||_}
+use mathlib.Core.Logic.{_⊎_, inl, inr, _≢_}
+use mathlib.Core.Bool.{Bool, true, false, not, _||_, or-false}
 use mathlib.Core.List.{List, [], _∷_, _++_, map, List·Memᴰ, List·Memᴰ·head, List·Memᴰ·tail, List·Memᴰ·not-nil, Memᴰ·append-left, Memᴰ·append-right, List·Memᴰ·append-cases}
 use Prim.Native.Nat.{ℕ, zero, suc, _≤_, _<_}
 use native.Mathlib.Omega.{arith}
@@ -12,8 +12,8 @@ use lib.Dec.{eqb}
 use lib.ListN.{length, getD, length-append}
 use borrow.Author.Tests.{eqb-true, eq-eqb, ne-eqb}
 use Rattle.lists.specs.Lists.{any, all, empty, joined, has, nodup, meets, addNew}
-use Rattle.lists.proofs.Tests.{Decided, decided, clash, same-test, or-cases, or-left}
-use Rattle.lists.proofs.Members.{has-tail, has-append, nodup-append}
+use Rattle.lists.proofs.Tests.{Decided, decided, clash, same-test, or-cases, or-left, or-right}
+use Rattle.lists.proofs.Members.{has-head, has-tail, has-append, nodup-append}
 use Rattle.lists.proofs.Counts.{any-at, any-of}
 
 -- ---- elements of any type
@@ -27,6 +27,10 @@ module _ {A : Type 0} where
       go : (t : Bool) → any f (k ++ l) ≡ (any f k || any f l) → (t || any f (k ++ l)) ≡ ((t || any f k) || any f l)
       go true ih = refl
       go false ih = ih
+
+  -- with one element more at the end
+  pub any-push : (f : A → Bool) (l : List A) (x : A) → any f (l ++ (x ∷ [])) ≡ (any f l || f x)
+  any-push f l x = any-append f l (x ∷ []) ∙ rw (or-false (f x))
 
   -- a test passes at all elements of a list where it passes at each
   pub all-of : (f : A → Bool) (l : List A) → ((x : A) → List·Memᴰ x l → f x ≡ true) → all f l ≡ true
@@ -97,6 +101,13 @@ last-cases l x c h = go (append-cases l (x ∷ []) c h)
     go : (has l c ≡ true) ⊎ (has (x ∷ []) c ≡ true) → (has l c ≡ true) ⊎ (c ≡ x)
     go (inl e) = inl e
     go (inr e) = inr (one (or-cases (eqb c x) false e))
+
+-- that one the list then has, and of others those that it had
+pub last-own : (l : List ℕ) (x : ℕ) → has (l ++ (x ∷ [])) x ≡ true
+last-own l x = has-append l (x ∷ []) x ∙ or-right (has l x) (has (x ∷ []) x) (has-head x [])
+
+pub last-other : (l : List ℕ) (x c : ℕ) → c ≢ x → has (l ++ (x ∷ [])) c ≡ has l c
+last-other l x c h = has-append l (x ∷ []) c ∙ rw (ne-eqb c x h) (or-false (has l c))
 
 -- two lists meet exactly where a number stands in both
 pub meets-at : (k l : List ℕ) → meets k l ≡ true → (c : ℕ) × (has k c ≡ true) × (has l c ≡ true)

@@ -11,7 +11,8 @@ use Rattle.blocks.specs.Places.{cellsFrom}
 use Rattle.blocks.proofs.Between.{cells-none}
 use Rattle.groups.specs.Combining.{alikeBy, GroupsAre}
 use Rattle.groups.proofs.PassedEquations.{length-cells, cells-next, cells-parted, cells-on-board}
-use Rattle.groups.proofs.GrownGroups.{alike-same, groups-none, groups-few, groups-cells, groups-small, groups-within, groups-there, groups-new}
+use Rattle.groups.proofs.FirstsOfClasses.{same-equivalence}
+use Rattle.groups.proofs.GrownGroups.{groups-none, groups-few, groups-cells, groups-small, groups-within, groups-there, groups-new}
 use Rattle.groups.proofs.fill_groups.Statement.{statement}
 use Rattle.groups.proofs.fill_groups.Tie as tie
 
@@ -55,7 +56,7 @@ first-alike-requires c κs =
     let first = s .args .first in
     let few : length (cellsFrom cells first (l .i)) ≤ 1024 = omega (arith, length-cells cells first (l .i), s .pre .0 .0 .few, l .inv .2) in (
       s .pre .0 .2,
-      groups-cells (alike-same (slotCells (s .args .columns .now))) (l .inv .0) few (cells-on-board cells first (l .i) (s .args .end) (s .pre .0 .0) (l .inv .2)),
+      groups-cells (same-equivalence (slotCells (s .args .columns .now))) (l .inv .0) few (cells-on-board cells first (l .i) (s .args .end) (s .pre .0 .0) (l .inv .2)),
       on-board (c .before),
     )
 
@@ -64,7 +65,7 @@ within : (c : tie.After-first-alike Inv-loop μ-loop) → c .first-alike .result
 within c =
     let s = c .before .before .before .before .before .before in
     let l = c .before .before .before .before .before .loop in
-    groups-within (alike-same (slotCells (s .args .columns .now))) (l .inv .0) (c .before .before .wide .result) (c .first-alike .result) (on-board (c .before .before)) (c .first-alike .ensures)
+    groups-within (same-equivalence (slotCells (s .args .columns .now))) (l .inv .0) (c .before .before .wide .result) (c .first-alike .result) (on-board (c .before .before)) (c .first-alike .ensures)
 
 -- there is room for a group more
 room : (c : tie.After-first-alike Inv-loop μ-loop) → c .before .before .before .before .before .loop .n < 1024
@@ -73,7 +74,7 @@ room c =
     let l = c .before .before .before .before .before .loop in
     omega (
       arith,
-      groups-few (alike-same (slotCells (s .args .columns .now))) (l .inv .0),
+      groups-few (same-equivalence (slotCells (s .args .columns .now))) (l .inv .0),
       length-cells (s .args .cells .now) (s .args .first) (l .i),
       c .before .before .before .before .loop-test .taken,
       s .pre .0 .0 .few,
@@ -87,7 +88,7 @@ small c =
     let l = c .before .before .before .before .before .loop in
     let cells = s .args .cells .now in
     let parted = cells-parted cells (s .args .first) (l .i) (s .args .end) (l .inv .1) (l .inv .2) in
-    groups-small (alike-same (slotCells (s .args .columns .now))) (l .inv .0) (cellsFrom cells (l .i) (s .args .end)) (rw parted at (s .pre .1 .1)) (c .first-alike .result)
+    groups-small (same-equivalence (slotCells (s .args .columns .now))) (l .inv .0) (cellsFrom cells (l .i) (s .args .end)) (rw parted at (s .pre .1 .1)) (c .first-alike .result)
 
 mul-firsts : tie.Need-mul-firsts Inv-loop μ-loop
 mul-firsts c = search needs
@@ -135,7 +136,7 @@ loop-again c =
     let cell = c .before .before .before .before .wide in
     let found = c .before .before .first-alike in
     let on = on-board (c .before .before .before .before) in
-    let same = alike-same (slotCells (s .args .columns .now)) in
+    let same = same-equivalence (slotCells (s .args .columns .now)) in
     let next = cells-next (s .args .cells .now) (s .args .first) (l .i) (l .inv .1) in
     ⊎-elim
     (λ w. (

@@ -9,21 +9,15 @@ use borrow.Author.Needs.{needs}
 use Rattle.lists.specs.Lists.{firstPlace}
 use Rattle.lists.proofs.FirstPlaces.{first-place-here, first-place-next}
 use Rattle.lists.proofs.Counted.{counted-none, rest-more}
-use Rattle.blocks.specs.BlockSets.{slotCells}
-use Rattle.blocks.proofs.Between.{slots-eight}
-use Rattle.frontier.proofs.EightCells.{cells-listed}
 use Rattle.groups.specs.Combining.{alikeBy}
 use Rattle.groups.proofs.first_alike.Statement.{statement}
 use Rattle.groups.proofs.first_alike.Tie as tie
 
 abbrev Inv-loop : tie.InvT-loop
-Inv-loop columns firsts n cell own g₀ g = (g + firstPlace (alikeBy columns cell) (drop g (take n firsts)) ≡ firstPlace (alikeBy columns cell) (take n firsts)) × (g ≤ n)
+Inv-loop columns firsts n cell g₀ g = (g + firstPlace (alikeBy columns cell) (drop g (take n firsts)) ≡ firstPlace (alikeBy columns cell) (take n firsts)) × (g ≤ n)
 
 abbrev μ-loop : tie.MeasureT-loop
-μ-loop columns firsts n cell own g₀ g = n - g
-
-slots-at-requires : tie.Need-slots-at-requires Inv-loop μ-loop
-slots-at-requires c κs = (c .pre .0, c .pre .2)
+μ-loop columns firsts n cell g₀ g = n - g
 
 loop-holds : tie.Need-loop-holds Inv-loop μ-loop
 loop-holds c = (omega arith, omega arith)
@@ -37,45 +31,27 @@ element-copy-out-wide c = search needs
 wide-requires : tie.Need-wide-requires Inv-loop μ-loop
 wide-requires c κs = search needs
 
-slots-at-requires-2 : tie.Need-slots-at-requires-2 Inv-loop μ-loop
-slots-at-requires-2 c κs =
-    let s = c .before .before .before .before .before in
-    (s .pre .0, rw (c .wide .ensures) (s .pre .1 .below (c .before .before .before .loop .g) (c .before .before .loop-test .taken)))
-
-same-list-requires : tie.Need-same-list-requires Inv-loop μ-loop
-same-list-requires c κs =
-    let s = c .before .before .before .before .before .before in
-    let columns = s .args .columns .now in
-    (rw (c .before .before .before .before .before .slots-at .ensures) (slots-eight columns (s .args .cell)), rw (c .slots-at2 .ensures) (slots-eight columns (c .before .wide .result)))
-
--- what is compared: the columns of the cell and of the next first cell
-compared : (c : tie.After-same-list Inv-loop μ-loop)
-    → c .same-list .result ≡ alikeBy (c .before .before .before .before .before .before .before .args .columns .now) (c .before .before .before .before .before .before .before .args .cell) (c .before .before .wide .result)
-compared c =
-    let s = c .before .before .before .before .before .before .before in
-    let columns = s .args .columns .now in
-    c .same-list .ensures
-    ∙ rw (
-      cells-listed (slotCells columns (s .args .cell)) (c .before .before .before .before .before .before .slots-at .ensures),
-      cells-listed (slotCells columns (c .before .before .wide .result)) (c .before .slots-at2 .ensures),
-    )
+same-columns-requires : tie.Need-same-columns-requires Inv-loop μ-loop
+same-columns-requires c κs =
+    let s = c .before .before .before .before in
+    (s .pre .0, s .pre .2, rw (c .wide .ensures) (s .pre .1 .below (c .before .before .before .loop .g) (c .before .before .loop-test .taken)))
 
 -- the next first cell
-next : (c : tie.After-same-list Inv-loop μ-loop)
-    → (let a = c .before .before .before .before .before .before .before .args in
-    let g = c .before .before .before .before .before .loop .g in
-    drop g (take (a .n) (a .firsts .now)) ≡ c .before .before .wide .result ∷ drop (g + 1) (take (a .n) (a .firsts .now)))
+next : (c : tie.After-same-columns Inv-loop μ-loop)
+    → (let a = c .before .before .before .before .before .args in
+    let g = c .before .before .before .before .loop .g in
+    drop g (take (a .n) (a .firsts .now)) ≡ c .before .wide .result ∷ drop (g + 1) (take (a .n) (a .firsts .now)))
 next c =
-    let s = c .before .before .before .before .before .before .before in
-    let l = c .before .before .before .before .before .loop in
-    rest-more (s .args .firsts .now) (s .args .n) (l .g) (c .before .before .wide .result) (omega (arith, s .pre .1 .whole, s .pre .1 .few))
-    (c .before .before .before .before .loop-test .taken) (c .before .before .wide .ensures)
+    let s = c .before .before .before .before .before in
+    let l = c .before .before .before .before .loop in
+    rest-more (s .args .firsts .now) (s .args .n) (l .g) (c .before .wide .result) (omega (arith, s .pre .1 .whole, s .pre .1 .few))
+    (c .before .before .before .loop-test .taken) (c .before .wide .ensures)
 
 returns : tie.Need-returns Inv-loop μ-loop
 returns c =
-    let s = c .before .before .before .before .before .before .before .before in
-    let l = c .before .before .before .before .before .before .loop in
-    sym (first-place-here (alikeBy (s .args .columns .now) (s .args .cell)) _ _ (l .g) _ (next (c .before)) (sym (compared (c .before)) ∙ c .if1 .taken)) ∙ l .inv .0
+    let s = c .before .before .before .before .before .before in
+    let l = c .before .before .before .before .before .loop in
+    sym (first-place-here (alikeBy (s .args .columns .now) (s .args .cell)) _ _ (l .g) _ (next (c .before)) (sym (c .before .same-columns .ensures) ∙ c .if1 .taken)) ∙ l .inv .0
 
 add-g : tie.Need-add-g Inv-loop μ-loop
 add-g c = search needs
@@ -85,15 +61,15 @@ loop-less c = search needs
 
 loop-again : tie.Need-loop-again Inv-loop μ-loop
 loop-again c =
-    let s = c .before .before .before .before .before .before .before .before in
-    let l = c .before .before .before .before .before .before .loop in (
-      sym (first-place-next (alikeBy (s .args .columns .now) (s .args .cell)) _ _ (l .g) _ (next (c .before)) (sym (compared (c .before)) ∙ c .if1 .left)) ∙ l .inv .0,
+    let s = c .before .before .before .before .before .before in
+    let l = c .before .before .before .before .before .loop in (
+      sym (first-place-next (alikeBy (s .args .columns .now) (s .args .cell)) _ _ (l .g) _ (next (c .before)) (sym (c .before .same-columns .ensures) ∙ c .if1 .left)) ∙ l .inv .0,
       omega arith,
     )
 
 returns-2 : tie.Need-returns-2 Inv-loop μ-loop
 returns-2 c =
-    let s = c .before .before .before in
+    let s = c .before .before in
     let l = c .before .loop in
     omega (arith, rw (counted-none (s .args .firsts .now) (s .args .n) (l .g) (c .loop-test .left)) at (l .inv .0))
 
@@ -103,13 +79,11 @@ first-alike-spec =
     (tie.spec
     Inv-loop
     μ-loop
-    slots-at-requires
     loop-holds
     mul-wide
     element-copy-out-wide
     wide-requires
-    slots-at-requires-2
-    same-list-requires
+    same-columns-requires
     returns
     add-g
     loop-less
