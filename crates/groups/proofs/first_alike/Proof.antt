@@ -11,7 +11,7 @@ use Rattle.lists.proofs.FirstPlaces.{first-place-here, first-place-next}
 use Rattle.lists.proofs.Counted.{counted-none, rest-more}
 use Rattle.blocks.specs.BlockSets.{slotCells}
 use Rattle.blocks.proofs.Between.{slots-eight}
-use Rattle.frontier.proofs.EightCells.{cells-listed}
+use Rattle.blocks.proofs.EightCells.{cells-listed}
 use Rattle.groups.specs.Combining.{alikeBy}
 use Rattle.groups.proofs.first_alike.Statement.{statement}
 use Rattle.groups.proofs.first_alike.Tie as tie
