@@ -5,16 +5,16 @@ use mathlib.Core.Bool.{Bool, true, false, cond}
 use mathlib.Core.List.{List, [], _∷_, map}
 use Prim.Native.Nat.{ℕ, zero, suc, _+_, _-_, _*_, _≤_, _<_}
 use native.Mathlib.Omega.{arith}
-use lib.Dec.{eqb}
+use lib.Dec.{eqb, ltb}
 use lib.ListN.{length, getD, take, drop, length-take}
-use Rattle.lists.specs.Lists.{any}
-use Rattle.lists.proofs.Arrays.{pad-take}
+use Rattle.lists.specs.Lists.{any, all}
 use Rattle.lists.proofs.Members.{range-more, range-none}
 use Rattle.grid.specs.Window.{listed}
 use Rattle.grid.specs.declared.window.Neighbours.{Neighbours}
 use Rattle.blocks.specs.Blocks.{BlockEquation}
 use Rattle.blocks.specs.BlockSets.{before, slotCells, beginAt}
 use Rattle.blocks.specs.Places.{marked, OnBoard, Slots, cellsFrom, equationsFrom}
+use Rattle.blocks.proofs.EightCells.{cells-listed}
 
 -- ---- cells
 
@@ -57,10 +57,13 @@ slots-eight slots e = omega (arith, before-few 65535 (take 8 (drop (e * 8) slots
 
 module _ (near : Neighbours) (slots : List ℕ) (e : ℕ) (is : near ≡ listed (slotCells slots e)) where
   pub listed-cells : take (near .len) (near .cells) ≡ slotCells slots e
-  listed-cells = rw is (pad-take 8 0 (slotCells slots e))
+  listed-cells = cells-listed (slotCells slots e) is
+
+  pub listed-below : all (λ c. ltb c 1024) (slotCells slots e) ≡ true → OnBoard near
+  listed-below h = record { few = rw is (slots-eight slots e); below = rw listed-cells h }
 
   pub listed-on-board : (end : ℕ) → Slots slots end → e < end → OnBoard near
-  listed-on-board end s h = record { few = rw is (slots-eight slots e); below = rw listed-cells (s .below e h) }
+  listed-on-board end s h = listed-below (s .below e h)
 
   -- a cell of the equation is marked
   pub listed-marked : (marks : List ℕ) (t : Bool) → any (marked marks) (take (near .len) (near .cells)) ≡ t → any (marked marks) (slotCells slots e) ≡ t

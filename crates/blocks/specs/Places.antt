@@ -24,10 +24,14 @@ pub record Marks (marks cells : List ℕ) : Type 0 where
 
 -- ---- a block in the arrays
 
--- a list of at most eight cells, each a place of the marks
+-- the cells that a list of at most eight holds
+abbrev pub cellsIn : Neighbours → List ℕ
+cellsIn l = take (l .len) (l .cells)
+
+-- such a list, each of its cells a place of the marks
 pub record OnBoard (list : Neighbours) : Type 0 where
   pub few : list .len ≤ 8
-  pub below : all (λ c. ltb c 1024) (take (list .len) (list .cells)) ≡ true
+  pub below : all (λ c. ltb c 1024) (cellsIn list) ≡ true
 
 -- the same of the slots at each place before the end
 pub record Slots (slots : List ℕ) (end : ℕ) : Type 0 where

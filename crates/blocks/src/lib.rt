@@ -10,7 +10,7 @@ ghost use lib.Seq.{sets};
 ghost use Rattle.lists.specs.Lists.{any, pad};
 ghost use Rattle.grid.specs.Window.{listed};
 ghost use Rattle.blocks.specs.BlockSets.{blockSet, slotCells, beginAt};
-ghost use Rattle.blocks.specs.Places.{marked, OnBoard, boundsAt};
+ghost use Rattle.blocks.specs.Places.{marked, Marks, cellsIn, OnBoard, boundsAt};
 
 // In a slot for a cell: no cell.
 pub const NO_CELL: u16 = 65535;
@@ -109,10 +109,24 @@ pub fn bounds_at(cell_ends: &[u16; 1024], equation_ends: &[u16; 1024], b: usize)
     }
 }
 
+// 1 at each cell of a list, 0 elsewhere.
+pub fn marks_of(list: Neighbours) -> [u8; 1024]
+    requires { ⌜ OnBoard list ⌝ }
+    ensures { λ r. ⌜ Marks r (cellsIn list) ⌝ }
+{
+    let cells = list.cells;
+    let len = list.len;
+    let mut marks = [0u8; 1024];
+    for k in 0..len {
+        marks[wide(cells[k])] = 1;
+    }
+    marks
+}
+
 // Is a cell of the list marked?
 pub fn meets_marks(marks: &[u8; 1024], list: Neighbours) -> bool
     requires { ⌜ OnBoard list ⌝ }
-    ensures { λ r. ⌜ r ≡ any (marked (now (marks .entry))) (take (list .len) (list .cells)) ⌝ }
+    ensures { λ r. ⌜ r ≡ any (marked (now (marks .entry))) (cellsIn list) ⌝ }
 {
     let cells = list.cells;
     let len = list.len;

@@ -4,7 +4,11 @@ use mathlib.Core.Bool.{true}
 use Rattle.lists.specs.Lists.{all, rotated}
 use Rattle.grid.specs.Window.{around, neighbours}
 use Rattle.refusals.specs.Tests.{sizeOk, lengthOk, roomOk, boardCellsOk, positionCellsOk, startOk, numbersOk, zeroOk, startCell, boardTested, positionTested, deductionTested, patternTested}
-use Rattle.frontier.specs.Frontier.{sources, blockOf, frontier, insideCells, knownMines}
+use Rattle.fitting.specs.Layouts.{fits, freeInEvery}
+use Rattle.fitting.specs.Solver.{ask}
+use Rattle.fitting.specs.Passes.{orElse, openCells, pass, allOpen, judge}
+use Rattle.sources.specs.Sources.{sources}
+use Rattle.frontier.specs.Frontier.{blockOf, frontier, insideCells, knownMines}
 use Rattle.chunks.specs.Chunks.{chunkMatrix, chunkMatrixes}
 use Rattle.rules.specs.Direct.{sureMines, sureSafe, directLeft, direct}
 use Rattle.subtraction.specs.Minus.{minusMines, minusSafe, minusLeft, subtraction}
@@ -16,9 +20,6 @@ use Rattle.tables.specs.Tables.{tableOf, blockAsked, calAllSolution}
 use Rattle.verdict.specs.Verdict.{judgedFrom, isSolvable}
 use Rattle.patterns.specs.Shapes.{amongMines, framed, foundAt, foundAnywhere, foundInCorner, patternFound}
 use Rattle.patterns.specs.Answer.{unsolvableStructure}
-use Rattle.fitting.specs.Layouts.{fits, freeInEvery}
-use Rattle.fitting.specs.Solver.{ask}
-use Rattle.fitting.specs.Passes.{orElse, openCells, pass, allOpen, judge}
 use Rattle.cases.specs.Table.{endsWith, holds, table}
 
 pub all-cases : all holds table ≡ true

@@ -19,9 +19,10 @@ use Rattle.grid.specs.Cells.{shows}
 use Rattle.fitting.specs.Equations.{Holds, isClosed, isKnownMine, equationAt}
 use Rattle.blocks.specs.Blocks.{BlockEquation, Block, says}
 use Rattle.blocks.specs.BlockSets.{allCells, allEquations}
-use Rattle.frontier.specs.Frontier.{closedBeside, equationOf, cellsMet, blockOf, frontier}
-use Rattle.frontier.proofs.ListedSources.{listed-source}
-use Rattle.frontier.proofs.Partition.{parts, part-has-sources}
+use Rattle.sources.specs.Sources.{closedBeside}
+use Rattle.sources.proofs.ListedSources.{listed-source}
+use Rattle.growth.proofs.Partition.{parts, part-has-sources}
+use Rattle.frontier.specs.Frontier.{equationOf, cellsMet, blockOf, frontier}
 
 -- ---- a list of blocks
 

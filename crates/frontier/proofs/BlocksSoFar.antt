@@ -10,10 +10,9 @@ use native.Mathlib.Omega.{arith}
 use lib.Dec.{leb, ltb}
 use lib.ListN.{length, getD, take, drop, set, replicate, length-append, length-map, length-replicate}
 use lib.Seq.{sets, length-take-le}
-use borrow.Author.Tests.{le-ltb, lt-ltb, ltb-true}
-use Rattle.lists.specs.Lists.{keep, range, all, has, addNew, joined, rotated}
-use Rattle.lists.proofs.Tests.{and-left, and-right}
-use Rattle.lists.proofs.All.{all-implied, all-has, all-rotated}
+use borrow.Author.Tests.{le-ltb}
+use Rattle.lists.specs.Lists.{all, has, addNew, joined, rotated}
+use Rattle.lists.proofs.All.{all-has, all-rotated}
 use Rattle.lists.proofs.Arrays.{length-pad, pad-nil, pad-take}
 use Rattle.lists.proofs.Elements.{replicate-all}
 use Rattle.lists.proofs.Counted.{counted-more, counted-none}
@@ -28,14 +27,19 @@ use Rattle.blocks.specs.BlockSets.{allCells, allEquations, slotsOf, slotCells, 
 use Rattle.blocks.proofs.Slots.{length-all-slots}
 use Rattle.blocks.proofs.Filling.{cells-push, equations-push}
 use Rattle.blocks.proofs.Room.{Room, room-next, block-stored}
-use Rattle.frontier.specs.Frontier.{closedBeside, isSource, sources, equationOf, cellsMet, blockOf, grown, blockSources, frontier}
-use Rattle.frontier.specs.Reading.{Read, slotsMeet, Cells, Placed, restAt}
+use Rattle.sources.specs.Sources.{closedBeside, sources, shares}
+use Rattle.sources.specs.Reading.{Read, slotsMeet, Cells}
+use Rattle.sources.specs.Equations.{restAt}
+use Rattle.sources.proofs.SourceLaws.{sourceBelow}
+use Rattle.sources.proofs.ReadSlots.{read-held, read-meets, all-read}
+use Rattle.sources.proofs.ReadSources.{all-open, sources-listed, all-listed, listed-cells}
+use Rattle.growth.specs.Growth.{grown, blockSources}
+use Rattle.growth.proofs.Growing.{grown-found, grown-left, grown-some, block-sources-ext}
+use Rattle.filling.specs.Places.{Placed}
+use Rattle.filling.proofs.SortedSlots.{slotsInOrder}
+use Rattle.frontier.specs.Frontier.{equationOf, cellsMet, blockOf, frontier}
 use Rattle.frontier.proofs.Coverage.{frontier-small}
 use Rattle.frontier.proofs.BlockLaws.{block-equations}
-use Rattle.frontier.proofs.SourceLaws.{sourceBelow}
-use Rattle.frontier.proofs.Growing.{grown-found, grown-left, grown-some}
-use Rattle.frontier.proofs.ReadSlots.{read-held, all-read, read-block-sources}
-use Rattle.frontier.proofs.Written.{slotsInOrder}
 use Rattle.frontier.proofs.WrittenBlock.{cells-joined, cells-end, cells-written, slots-written, rests-written}
 
 -- the first n of `left` are the sources left, and the struct s holds the blocks done, k cells and e equations
@@ -120,37 +124,11 @@ module _ {rows columns : ℕ} {p beside list : List ℕ} {len : ℕ} (board : Bo
       (λ c h. let on : c < rows * columns = omega (arith, board .whole) in neighbours-few rows columns c on (some-column rows columns c on))
       (omega (arith, board .whole, few-cells (board .sized)))
 
-  -- sources of the board are open cells of it
-  pub all-open : (l : List ℕ) → all isRead l ≡ true → all (λ c. ltb c (rows * columns) && leb (shows p c) 8) l ≡ true
-  all-open l h = all-implied isRead (λ c. ltb c (rows * columns) && leb (shows p c) 8) l one h
-    where
-      one : (c : ℕ) → isRead c ≡ true → (ltb c (rows * columns) && leb (shows p c) 8) ≡ true
-      one c e = rw (
-        and-left (ltb c (rows * columns)) (isSource near p c) e,
-        and-left (leb (shows p c) 8) _ (and-right (ltb c (rows * columns)) (isSource near p c) e),
-      )
-
   -- ---- no block is done
 
-  pub sources-listed : take len list ≡ sources near p
-  unfolding sources
-  sources-listed = read .listed ∙ ap (λ (m : ℕ). keep (isSource near p) (range 0 m)) (sym (board .whole))
-
-  pub all-listed : all isRead (take len list) ≡ true
-  all-listed = rw sources-listed (all-read board read)
-
-  -- they are cells, in an array with a count
-  pub listed-cells : Cells list len
-  listed-cells = record {
-    long = read .long;
-    few = omega (arith, read .few, few-cells (board .sized));
-    on-board = all-implied isRead (λ d. ltb d 1024) (take len list) on-board all-listed;
-  }
-    where
-      on-board : (c : ℕ) → isRead c ≡ true → ltb c 1024 ≡ true
-      on-board c h =
-          let below = ltb-true c (rows * columns) (and-left (ltb c (rows * columns)) (isSource near p c) h) in
-          lt-ltb c 1024 (omega (arith, few-cells (board .sized)))
+  -- the slots give the sources of the blocks
+  read-block-sources : (k : ℕ) → blockSources (slotsMeet beside) k (sources near p) ≡ blockSources (shares near p) k (sources near p)
+  read-block-sources k = block-sources-ext isRead (slotsMeet beside) (shares near p) (read-meets board read) k (sources near p) (all-read board read)
 
   pub none-so-far : BlocksSoFar rows columns p beside list len (replicate 1024 0)
       record {
@@ -169,11 +147,11 @@ module _ {rows columns : ℕ} {p beside list : List ℕ} {len : ℕ} (board : Bo
     cells-counted = refl;
     equations-counted = refl;
     placed = placed-nothing;
-    left-cells = listed-cells;
-    left-sources = all-listed;
+    left-cells = listed-cells board read;
+    left-sources = all-listed board read;
     bound = length p;
     enough = omega (arith, read .few, board .whole);
-    whole = rw sources-listed (ap (map (blockOf near p)) (read-block-sources board read (length p)));
+    whole = rw (sources-listed board read) (ap (map (blockOf near p)) (read-block-sources (length p)));
   }
 
   -- ---- some blocks are done
@@ -265,7 +243,7 @@ module _ {rows columns : ℕ} {p beside list : List ℕ} {len : ℕ} (board : Bo
           cells-room = rw cells-same (omega (arith, room .cells, b .cells-counted));
           equations-room = omega (arith, room .equations, b .equations-counted, length-equations);
           block-room = rw (b .held) (room .block);
-          are-open = all-open part part-sources;
+          are-open = all-open board read part part-sources;
         }
 
         -- ---- it is written

@@ -21,9 +21,10 @@ use Rattle.fitting.specs.Equations.{isClosed}
 use Rattle.fitting.proofs.Layouts.{on-board}
 use Rattle.blocks.specs.Blocks.{BlockEquation}
 use Rattle.blocks.specs.BlockSets.{allCells, allEquations, smallEquation, Small}
-use Rattle.frontier.specs.Frontier.{closedBeside, sources, shares, equationOf, cellsMet, blockOf, frontier}
-use Rattle.frontier.proofs.ListedSources.{listed-source, source-listed, sources-once}
-use Rattle.frontier.proofs.Partition.{Separate, parts, parts-rearranged, parts-separate, parts-few}
+use Rattle.sources.specs.Sources.{closedBeside, sources, shares}
+use Rattle.sources.proofs.ListedSources.{listed-source, source-listed, sources-once}
+use Rattle.growth.proofs.Partition.{Separate, parts, parts-rearranged, parts-separate, parts-few}
+use Rattle.frontier.specs.Frontier.{equationOf, cellsMet, blockOf, frontier}
 use Rattle.frontier.proofs.BlockLaws.{beside-closed, block-has, block-once, block-equations, block-cell-source, equation-few, Origin, equation-origin, origin-open, origin-closed}
 
 module _ (near : ℕ → List ℕ) (p : List ℕ) where

@@ -19,9 +19,10 @@ use Rattle.fitting.proofs.Frontier.{layoutOf, layout-at, fits-holds}
 use Rattle.fitting.proofs.Blocks.{Around, part-fits}
 use Rattle.blocks.specs.Blocks.{BlockEquation, Block, says}
 use Rattle.blocks.specs.BlockSets.{allEquations}
-use Rattle.frontier.specs.Frontier.{closedBeside, sources, equationOf, cellsMet, blockOf, frontier}
-use Rattle.frontier.proofs.ListedSources.{source-listed}
-use Rattle.frontier.proofs.Partition.{parts, sharing-together}
+use Rattle.sources.specs.Sources.{closedBeside, sources}
+use Rattle.sources.proofs.ListedSources.{source-listed}
+use Rattle.growth.proofs.Partition.{parts, sharing-together}
+use Rattle.frontier.specs.Frontier.{equationOf, cellsMet, blockOf, frontier}
 use Rattle.frontier.proofs.BlockLaws.{block-equation, block-cell-source, source-block-cell, block-closed, source-equation, equation-says, frontier-part, Origin, equation-origin, origin-open}
 
 -- the equations of a block, each with its place, as a family

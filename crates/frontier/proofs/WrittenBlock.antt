@@ -14,12 +14,14 @@ use Rattle.lists.proofs.Joined.{map-ext}
 use Rattle.fitting.specs.Equations.{isClosed}
 use Rattle.blocks.specs.Blocks.{BlockEquation}
 use Rattle.blocks.specs.BlockSets.{slotsOf, slotCells}
-use Rattle.frontier.specs.Frontier.{closedBeside, equationOf, cellsMet, blockOf}
-use Rattle.frontier.specs.Reading.{Placed, insertAll, restAt}
+use Rattle.sources.specs.Sources.{closedBeside}
+use Rattle.sources.specs.Equations.{restAt}
+use Rattle.filling.specs.Places.{Placed, insertAll}
+use Rattle.filling.proofs.Order.{inserted-in-order}
+use Rattle.filling.proofs.Placing.{placed-long, placed-follow}
+use Rattle.filling.proofs.SortedSlots.{slotsInOrder}
+use Rattle.frontier.specs.Frontier.{equationOf, cellsMet, blockOf}
 use Rattle.frontier.proofs.BlockLaws.{block-cells, block-equations, source-block-cell}
-use Rattle.frontier.proofs.Order.{inserted-in-order}
-use Rattle.frontier.proofs.Placing.{placed-long, placed-follow}
-use Rattle.frontier.proofs.Written.{slotsInOrder}
 
 -- ---- the cells, in an array with what was there before
 

@@ -2,15 +2,16 @@
 // listed in reading order, each with its closed neighbours; then blocks grow from the first source left, and their cells and equations are written
 // one block after another.
 pub mod counts;
-pub mod equations;
-pub mod filling;
-pub mod growth;
-pub mod sources;
 
 use blocks::BlockSet;
 use blocks::empty_set;
+use filling::fill_cells;
+use filling::fill_equations;
+use growth::drop_first;
+use growth::grow_block;
 use refusals::Tested;
 use refusals::test_position;
+use sources::read_sources;
 ghost use mathlib.Core.Path.{_≡_};
 ghost use Rattle.grid.specs.Window.{neighbours, Board};
 ghost use Rattle.blocks.specs.BlockSets.{blockSet};
@@ -53,7 +54,7 @@ pub fn read_blocks(rows: usize, columns: usize, position: &[u8]) -> BlockSet
 {
     let mut beside = [65535u16; 8192];
     let mut left = [0u16; 1024];
-    let mut n = sources::read_sources(rows, columns, position, &mut beside, &mut left);
+    let mut n = read_sources(rows, columns, position, &mut beside, &mut left);
     let mut found = [0u16; 1024];
     let mut places = [0u16; 1024];
     let mut cells = [0u16; 1024];
@@ -65,10 +66,10 @@ pub fn read_blocks(rows: usize, columns: usize, position: &[u8]) -> BlockSet
     let mut e = 0;
     let mut blocks = 0;
     while 0 < n {
-        let sizes = growth::grow_block(columns, &beside, &mut left, n, &mut found);
+        let sizes = grow_block(columns, &beside, &mut left, n, &mut found);
         let len = sizes.found;
-        k = filling::fill_cells(columns, &beside, &found, len, &mut places, &mut cells, k);
-        e = filling::fill_equations(
+        k = fill_cells(columns, &beside, &found, len, &mut places, &mut cells, k);
+        e = fill_equations(
             rows,
             columns,
             position,
@@ -83,7 +84,7 @@ pub fn read_blocks(rows: usize, columns: usize, position: &[u8]) -> BlockSet
         cell_ends[blocks] = k as u16;
         equation_ends[blocks] = e as u16;
         blocks += 1;
-        n = growth::drop_first(&mut left, sizes.left);
+        n = drop_first(&mut left, sizes.left);
     }
     BlockSet {
         cells,

@@ -33,9 +33,10 @@ use Rattle.fitting.proofs.Layouts.{on-board}
 use Rattle.blocks.specs.Blocks.{BlockEquation, Block}
 use Rattle.blocks.specs.BlockSets.{blockSet, blocksOf}
 use Rattle.blocks.specs.declared.BlockSet.{BlockSet}
-use Rattle.frontier.specs.Frontier.{closedBeside, sources, equationOf, cellsMet, blockOf, frontier}
-use Rattle.frontier.proofs.ListedSources.{listed-source, sources-few}
-use Rattle.frontier.proofs.Partition.{parts, parts-once, parts-rearranged, parts-not-empty, part-has-sources}
+use Rattle.sources.specs.Sources.{closedBeside, sources}
+use Rattle.sources.proofs.ListedSources.{listed-source, sources-few}
+use Rattle.growth.proofs.Partition.{parts, parts-once, parts-rearranged, parts-not-empty, part-has-sources}
+use Rattle.frontier.specs.Frontier.{equationOf, cellsMet, blockOf, frontier}
 use Rattle.frontier.proofs.BlockLaws.{source-block-cell, block-closed, block-once, block-equations, equation-source, equation-has, equation-few, block-proper, frontier-part}
 use Rattle.frontier.proofs.ReadFrontier.{read-frontier}
 use Rattle.groups.specs.Groups.{noCells, column}

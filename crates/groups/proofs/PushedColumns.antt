@@ -24,7 +24,7 @@ use Rattle.grid.specs.Window.{listed}
 use Rattle.grid.specs.declared.window.Neighbours.{Neighbours}
 use Rattle.blocks.specs.BlockSets.{slotCells}
 use Rattle.blocks.specs.Places.{Slots}
-use Rattle.frontier.proofs.SlotLaws.{slots-filled, put-there, put-elsewhere}
+use Rattle.blocks.proofs.SlotLaws.{slots-filled, put-there, put-elsewhere}
 use Rattle.groups.specs.Combining.{ColumnsAre, columnIn, columnWith}
 
 -- ---- a number put behind a list of at most eight

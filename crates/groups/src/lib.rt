@@ -17,8 +17,7 @@ ghost use lib.Seq.{sets};
 ghost use Rattle.lists.specs.Lists.{any, all, count, nodup, firstPlace, joined, pad};
 ghost use Rattle.blocks.specs.Blocks.{BlockEquation};
 ghost use Rattle.blocks.specs.BlockSets.{slotCells};
-ghost use Rattle.blocks.specs.Places.{OnBoard, Slots, Cells, Arrays, cellsFrom, equationsFrom, blockFrom};
-ghost use Rattle.frontier.specs.Reading.{cellsIn};
+ghost use Rattle.blocks.specs.Places.{cellsIn, OnBoard, Slots, Cells, Arrays, cellsFrom, equationsFrom, blockFrom};
 ghost use Rattle.groups.specs.Grouping.{Combinable, grouped};
 ghost use Rattle.groups.specs.Combining.{ColumnsAre, columnIn, columnWith, alikeBy, GroupsAre};
 

@@ -23,7 +23,8 @@ use Rattle.fitting.specs.Rules.{Sound}
 use Rattle.fitting.proofs.Layouts.{on-board}
 use Rattle.blocks.specs.Blocks.{Block}
 use Rattle.blocks.specs.BlockSets.{allCells, allEquations}
-use Rattle.frontier.specs.Frontier.{closedBeside, equationOf, cellsMet, frontier}
+use Rattle.sources.specs.Sources.{closedBeside}
+use Rattle.frontier.specs.Frontier.{equationOf, cellsMet, frontier}
 use Rattle.frontier.proofs.BlockLaws.{equation-rearranged, frontier-proper, Origin, equation-origin}
 use Rattle.frontier.proofs.Coverage.{frontier-closed, frontier-once, frontier-size}
 use Rattle.frontier.proofs.Fitting.{fits-solves}

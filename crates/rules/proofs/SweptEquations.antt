@@ -6,8 +6,8 @@ use mathlib.Core.List.{List}
 use Prim.Native.Nat.{ℕ}
 use Rattle.lists.specs.Lists.{has, nodup}
 use Rattle.blocks.specs.BlockSets.{allEquations}
+use Rattle.sources.specs.Equations.{plainEquations}
 use Rattle.frontier.specs.Frontier.{frontier}
-use Rattle.frontier.specs.Equations.{plainEquations}
 use Rattle.frontier.proofs.BlockLaws.{frontier-proper}
 use Rattle.frontier.proofs.Coverage.{frontier-once}
 use Rattle.rules.specs.Direct.{sureMines, sureSafe, direct}

@@ -14,7 +14,7 @@ use Rattle.blocks.specs.BlockSets.{slotsOf, slotCells, beginAt, blocksOf, small
 use Rattle.blocks.specs.Places.{Slots, equationsFrom}
 use Rattle.blocks.specs.declared.BlockSet.{BlockSet}
 use Rattle.blocks.proofs.Slots.{allSlots}
-use Rattle.frontier.proofs.EquationArrays.{slots-stored, rests-stored, arrays-slots, arrays-read}
+use Rattle.sources.proofs.EquationArrays.{slots-stored, rests-stored, arrays-slots, arrays-read}
 use Rattle.marks.specs.Marked.{Ready, leftEquations}
 use Rattle.marks.proofs.WhatIsLeft.{equations-fewer, equations-pass, small-left}
 use Rattle.rules.specs.Direct.{sureMines, sureSafe, fromLast}

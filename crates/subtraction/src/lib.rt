@@ -5,6 +5,7 @@ pub mod own;
 
 use blocks::BlockSet;
 use blocks::begin_at;
+use blocks::marks_of;
 use blocks::slots_at;
 use chunks::chunk_matrixes;
 use grid::window::wide;
@@ -16,7 +17,6 @@ use marks::listing::list_blocks;
 use marks::listing::put_list;
 use marks::marked_in_one;
 use own::mark_own;
-use own::marks_of;
 use rules::answer::Lists;
 use rules::answer::RuleAnswer;
 use rules::direct::direct_rule;

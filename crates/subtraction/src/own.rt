@@ -1,4 +1,4 @@
-// Of two lists of cells: the cells of one, marked, and its own cells, those that the other lacks, marked beside others.
+// Of two lists of cells: the own cells of one, those that the other lacks, marked beside others.
 use grid::window::Neighbours;
 use grid::window::wide;
 ghost use mathlib.Core.Path.{_≡_};
@@ -6,21 +6,7 @@ ghost use mathlib.Core.Bool.{not, _||_};
 ghost use Prim.Native.Nat.{ℕ};
 ghost use lib.ListN.{length, take};
 ghost use Rattle.lists.specs.Lists.{keep, has};
-ghost use Rattle.blocks.specs.Places.{marked, Marks, OnBoard};
-
-// 1 at each cell of a list, 0 elsewhere.
-pub fn marks_of(list: Neighbours) -> [u8; 1024]
-    requires { ⌜ OnBoard list ⌝ }
-    ensures { λ r. ⌜ Marks r (take (list .len) (list .cells)) ⌝ }
-{
-    let cells = list.cells;
-    let len = list.len;
-    let mut marks = [0u8; 1024];
-    for k in 0..len {
-        marks[wide(cells[k])] = 1;
-    }
-    marks
-}
+ghost use Rattle.blocks.specs.Places.{marked, OnBoard};
 
 // Is a cell in a list?
 fn has_cell(list: Neighbours, cell: u16) -> bool

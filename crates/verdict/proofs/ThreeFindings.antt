@@ -29,11 +29,11 @@ use Rattle.blocks.specs.Places.{Slots, equationsFrom}
 use Rattle.blocks.specs.declared.BlockSet.{BlockSet}
 use Rattle.blocks.proofs.Reading.{blocks-of-set}
 use Rattle.blocks.proofs.Behind.{set-whole}
+use Rattle.sources.specs.Equations.{plainEquations, equationArrays}
+use Rattle.sources.specs.declared.equations.Equations.{Equations}
+use Rattle.sources.proofs.EquationArrays.{arrays-slots, arrays-read, plain-small, plain-few}
 use Rattle.frontier.specs.Frontier.{frontier}
-use Rattle.frontier.specs.Equations.{plainEquations, equationArrays}
-use Rattle.frontier.specs.declared.equations.Equations.{Equations}
 use Rattle.frontier.proofs.Coverage.{frontier-small}
-use Rattle.frontier.proofs.EquationArrays.{arrays-slots, arrays-read, plain-small, plain-few}
 use Rattle.marks.specs.Marked.{Ready}
 use Rattle.rules.specs.Found.{Found, ruleOf}
 use Rattle.rules.specs.Direct.{sureMines, sureSafe, direct}

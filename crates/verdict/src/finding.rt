@@ -1,11 +1,11 @@
 // What one pass finds at a position: the direct rule's cells, else those of subtraction, else those of enumeration, with the grade of the rule that found them.
 use blocks::BlockSet;
-use frontier::equations::read_equations;
 use frontier::read_blocks;
 use rules::answer::Lists;
 use rules::answer::lists_of;
 use rules::direct::direct_cells;
 use solutions::enumerate::enumerate_rule;
+use sources::equations::read_equations;
 use subtraction::minus_cells;
 ghost use mathlib.Core.Path.{_≡_};
 ghost use mathlib.Core.Bool.{Bool};

@@ -4,9 +4,9 @@
 use mathlib.Core.Path.{_≡_, refl}
 use native.Mathlib.Omega.{arith}
 use lib.ListN.{length}
-use Rattle.frontier.specs.Reading.{Slots}
-use Rattle.frontier.proofs.SourceLaws.{read-none}
-use Rattle.frontier.proofs.ReadSlots.{read-slots}
+use Rattle.sources.specs.Reading.{Slots}
+use Rattle.sources.proofs.SourceLaws.{read-none}
+use Rattle.sources.proofs.ReadSlots.{read-slots}
 use Rattle.frontier.proofs.BlocksSoFar.{BlocksSoFar, NextFits, none-so-far, next-fits, one-more, all-so-far}
 use Rattle.frontier.proofs.read_blocks.Statement.{statement}
 use Rattle.frontier.proofs.read_blocks.Tie as tie

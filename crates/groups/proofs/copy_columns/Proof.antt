@@ -11,7 +11,7 @@ use Rattle.lists.proofs.Counted.{counted-none, rest-more}
 use Rattle.lists.proofs.Storing.{Storing, storing-start, storing-next, storing-end}
 use Rattle.blocks.specs.BlockSets.{slotCells}
 use Rattle.blocks.proofs.Between.{slots-eight}
-use Rattle.frontier.proofs.EightCells.{cells-listed}
+use Rattle.blocks.proofs.EightCells.{cells-listed}
 use Rattle.groups.proofs.copy_columns.Statement.{statement}
 use Rattle.groups.proofs.copy_columns.Tie as tie
 

@@ -5,9 +5,9 @@ use mathlib.Core.Path.{_≡_}
 use native.Mathlib.Omega.{arith}
 use borrow.Author.Needs.{needs}
 use Rattle.blocks.specs.BlockSets.{slotCells}
+use Rattle.blocks.specs.Places.{cellsIn}
 use Rattle.blocks.proofs.Between.{listed-on-board}
-use Rattle.frontier.specs.Reading.{cellsIn}
-use Rattle.frontier.proofs.EightCells.{cells-listed}
+use Rattle.blocks.proofs.EightCells.{cells-listed}
 use Rattle.groups.specs.Combining.{ColumnsAre, columnIn}
 use Rattle.groups.proofs.PushedColumns.{columns-none, columns-slots, columns-room, columns-next}
 use Rattle.groups.proofs.fill_columns.Statement.{statement}

@@ -6,7 +6,7 @@ use native.Mathlib.Omega.{arith}
 use lib.ListN.{length, getD, take, length-take}
 use lib.Seq.{getD-take, take-all, length-take-le}
 use borrow.Author.Needs.{needs}
-use Rattle.frontier.specs.Reading.{cellsIn}
+use Rattle.blocks.specs.Places.{cellsIn}
 use Rattle.groups.specs.Combining.{ColumnsAre, columnWith}
 use Rattle.groups.proofs.PushedColumns.{Pushable, push-none, push-on-board, push-room, push-next}
 use Rattle.groups.proofs.push_equation.Statement.{statement}

@@ -5,7 +5,7 @@ use mathlib.Core.List.{List}
 use borrow.Author.Needs.{needs}
 use Rattle.grid.specs.Window.{neighbours}
 use Rattle.blocks.specs.Blocks.{Block}
-use Rattle.frontier.specs.Equations.{plainEquations}
+use Rattle.sources.specs.Equations.{plainEquations}
 use Rattle.rules.specs.Answers.{ruleAnswer, listsIn, sweptLists}
 use Rattle.subtraction.specs.Pairs.{minusLists}
 use Rattle.groups.proofs.FrontierBlocks.{frontier-combinable}

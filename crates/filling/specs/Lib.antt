@@ -1,0 +1,2 @@
+-- What the functions that write a block's cells and equations tell each other.
+pub mod Places
