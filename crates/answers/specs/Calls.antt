@@ -1,14 +1,14 @@
 -- The calls by name, and what each answers to a line. Assumes nothing.
 use mathlib.Core.List.{List}
 use Prim.Native.Nat.{ℕ}
+use Rattle.frontier_lines.specs.Frontier.{frontierLine}
+use Rattle.rule_lines.specs.declared.Rule.the-variants as rule
+use Rattle.rule_lines.specs.Deductions.{deductionLine}
+use Rattle.table_lines.specs.Tables.{tableLine}
+use Rattle.board_lines.specs.Patterns.{patternLine}
+use Rattle.board_lines.specs.Verdicts.{verdictLine}
 use Rattle.answers.specs.declared.Call.{Call}
 use Rattle.answers.specs.declared.Call.the-variants.{Frontier, Direct, Minus, Pattern, Enumerate, Verdict, Table}
-use Rattle.answers.specs.declared.deducing.Rule.the-variants as rule
-use Rattle.answers.specs.Frontier.{frontierLine}
-use Rattle.answers.specs.Deductions.{deductionLine}
-use Rattle.answers.specs.Patterns.{patternLine}
-use Rattle.answers.specs.Verdicts.{verdictLine}
-use Rattle.answers.specs.Tables.{tableLine}
 
 unfoldable pub callLine : Call → List ℕ → List ℕ
 callLine Frontier line = frontierLine line

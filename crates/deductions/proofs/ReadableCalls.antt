@@ -1,13 +1,15 @@
--- What a caller of solve_direct and of solve_minus can read of the answer, from the definition alone, whatever was asked: the counts are within the lists and at
+-- What a caller of solve_direct, solve_minus and solve_enumerate can read of the answer, from the definition alone, whatever was asked: the counts are within the lists and at
 -- most 1,024, and the block set is whole. A refusal has no cells and no blocks. Said once for any rule that is sound at the position and leaves blocks that
 -- fit. Rests on Handed, Deductions, and LeftFits of the crates rules and subtraction. Assumes nothing.
 use mathlib.Core.Path.{_≡_, refl}
 use mathlib.Core.Logic.{inl, inr}
-use mathlib.Core.List.{List, []}
+use mathlib.Core.Bool.{Bool, true, false, cond}
+use mathlib.Core.List.{List, [], map}
 use Prim.Native.Nat.{ℕ, _≤_}
 use native.Mathlib.Omega.{arith}
 use lib.ListN.{length}
 use lib.Seq.{length-sets}
+use Rattle.lists.specs.Lists.{joined}
 use Rattle.lists.proofs.Tests.{Decided, decided}
 use Rattle.grid.specs.Window.{neighbours}
 use Rattle.refusals.specs.declared.Refusal.{Refusal}
@@ -21,15 +23,17 @@ use Rattle.blocks.specs.BlockSets.{Small, Whole}
 use Rattle.blocks.proofs.Behind.{set-whole}
 use Rattle.frontier.specs.Frontier.{frontier}
 use Rattle.frontier.proofs.ReadFrontier.{frontier-fits}
-use Rattle.rules.specs.Found.{Found}
+use Rattle.rules.specs.Found.{Found, contradicted, found}
 use Rattle.rules.specs.Direct.{direct}
 use Rattle.rules.proofs.Soundness.{SoundAt, listed-few}
 use Rattle.rules.proofs.LeftFits.{none-fits, direct-left-fits}
 use Rattle.subtraction.specs.Minus.{subtraction}
 use Rattle.subtraction.proofs.LeftFits.{subtraction-left-fits}
-use Rattle.deductions.specs.Answers.{Seen, refusedAnswer, refused, afterFound, afterTests, deduction, solveDirect, solveMinus}
+use Rattle.solutions.specs.Enumeration.{safeCells, mineCells, unsolvable, enumerated}
+use Rattle.deductions.specs.Answers.{Seen, refusedAnswer, refused, afterFound, afterTests, deduction, solveDirect, solveMinus, solveEnumerate}
 use Rattle.deductions.proofs.Handed.{after-contradiction, after-lists}
 use Rattle.deductions.proofs.Deductions.{direct-sound-on, subtraction-sound-on}
+use Rattle.deductions.proofs.EnumerationCalls.{enumeration-sound-on}
 
 -- the counts are those of entries of the lists, few enough for a board, and the blocks can be read
 pub record Readable (w : Seen) : Type 0 where
@@ -95,6 +99,15 @@ module _ (rule : List Block → Found) (rows columns : ℕ) (p s m : List ℕ)
       go Accepted e = accepted-readable (accepted-deduction rows columns p (length s) (length m) e)
       go (Refused x) e = refused-readable x p s m
 
+-- enumeration: it leaves no blocks
+none-left-fits : (bs : List Block) → Small bs → Small (enumerated bs .left)
+unfolding enumerated
+none-left-fits bs small = go (unsolvable bs)
+  where
+    go : (t : Bool) → Small (cond t contradicted (found (joined (map safeCells bs)) (joined (map mineCells bs)) []) .left)
+    go true = none-fits
+    go false = none-fits
+
 module _ (rows columns : ℕ) (p s m : List ℕ) where
   -- solve_direct
   pub direct-readable : Readable (solveDirect rows columns p s m)
@@ -105,3 +118,8 @@ module _ (rows columns : ℕ) (p s m : List ℕ) where
   pub minus-readable : Readable (solveMinus rows columns p s m)
   unfolding solveMinus
   minus-readable = call-readable subtraction rows columns p s m (subtraction-sound-on rows columns p) subtraction-left-fits
+
+  -- solve_enumerate
+  pub enumerate-readable : Readable (solveEnumerate rows columns p s m)
+  unfolding solveEnumerate
+  enumerate-readable = call-readable enumerated rows columns p s m (λ _. enumeration-sound-on rows columns p) none-left-fits

@@ -1,3 +1,4 @@
 -- Answers as lines of text.
 pub mod Blocks
 pub mod Cells
+pub mod Refusals

@@ -1,9 +1,11 @@
-// Answers as lines of text: block sets and positions, written into a lent buffer. A struct's arrays are copied into locals before they are lent, since a
+// Answers as lines of text: block sets, positions and refusals, written into a lent buffer. A struct's arrays are copied into locals before they are lent, since a
 // field cannot be lent beside another. specs/ says what the text of each thing is.
 use blocks::BlockSet;
 use blocks::begin_at;
 use blocks::slots_at;
 use grid::window::wide;
+use refusals::Refusal;
+use refusals::refusal_number;
 use text::put_byte;
 use text::put_bytes;
 use text::put_number;
@@ -12,10 +14,12 @@ ghost use mathlib.Core.List.{_∷_, map};
 ghost use Prim.Native.Nat.{_-_, _≤_, _<_};
 ghost use lib.ListN.{length};
 ghost use Rattle.lists.specs.Lists.{range, joined};
+ghost use Rattle.refusals.specs.Refusals.{refusalNumber};
 ghost use Rattle.text.specs.Text.{decimal, Written};
 ghost use Rattle.blocks.specs.BlockSets.{blocksOf, Whole};
 ghost use Rattle.show.specs.Blocks.{nextNumber, numbersIn, numbersText, remainderText, equationIn, equationText, blockIn, blockText, blocksText, Inside};
 ghost use Rattle.show.specs.Cells.{cellsText};
+ghost use Rattle.show.specs.Refusals.{refusedText};
 
 // A byte, as wide as a place.
 fn wide_byte(x: u8) -> usize
@@ -188,4 +192,12 @@ pub fn put_cells(out: &mut [u8], at: usize, cells: &[u8]) -> usize
         k = put_marked(out, k, 32, wide_byte(cells[i]));
     }
     k
+}
+
+// `refused 6`, from the front.
+pub fn put_refused(out: &mut [u8], refusal: Refusal) -> usize
+    ensures { λ r. ⌜ Written (now (out .entry)) 0 (refusedText (refusalNumber refusal)) (now (out .exit)) r ⌝ }
+{
+    let word = put_bytes(out, 0, b"refused ");
+    put_number(out, word, refusal_number(refusal) as usize)
 }

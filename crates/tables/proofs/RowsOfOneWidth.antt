@@ -7,7 +7,7 @@ use Prim.Native.Nat.{ℕ, zero, suc, _+_, _*_, _≤_, _<_}
 use native.Mathlib.Nat.{suc-mul, mul-le-mul-right}
 use native.Mathlib.Omega.{arith}
 use lib.Dec.{eqb}
-use lib.ListN.{length, getD, take, drop}
+use lib.ListN.{length, getD, drop}
 use lib.Seq.{sets, sets-eq}
 use Rattle.lists.specs.Lists.{count, all, same, joined}
 use Rattle.lists.proofs.Tests.{clash}
@@ -16,10 +16,7 @@ use Rattle.lists.proofs.CountsAlike.{counts-grow}
 use Rattle.lists.proofs.Joined.{slice-append, length-joined, equal-slice}
 use Rattle.lists.proofs.PartedLists.{same-self}
 use Rattle.lists.proofs.ReadBack.{front-kept}
-
--- the row at place i of a table whose rows are g wide
-abbrev pub rowAt : ℕ → List ℕ → ℕ → List ℕ
-rowAt g t i = take g (drop (i * g) t)
+use Rattle.tables.specs.Tables.{rowAt}
 
 module _ (rows : List (List ℕ)) (g : ℕ) (wide : all (λ (row : List ℕ). eqb (length row) g) rows ≡ true) where
   each : joined (map (λ (row : List ℕ). row) rows) ≡ joined rows

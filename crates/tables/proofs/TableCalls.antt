@@ -32,10 +32,10 @@ use Rattle.search.proofs.Vectors.{withinSizes, inOrder}
 use Rattle.search.proofs.Orders.{readAt}
 use Rattle.search.proofs.ListedSolutions.{solutions-once, solutions-in-order}
 use Rattle.search.proofs.GroupRows.{SolutionRow, row-listed, listed-row}
-use Rattle.tables.specs.Tables.{TableSeen, tableSeen, refused, tableOf, blockAsked, calAllSolution}
+use Rattle.tables.specs.Tables.{TableSeen, tableSeen, rowAt, refused, tableOf, blockAsked, calAllSolution}
 use Rattle.tables.specs.declared.TableAnswer.{TableAnswer}
 use Rattle.tables.specs.declared.TableAnswer.the-variants.{Refused, Listed}
-use Rattle.tables.proofs.RowsOfOneWidth.{rowAt, row-back, behind-kept, places-differ}
+use Rattle.tables.proofs.RowsOfOneWidth.{row-back, behind-kept, places-differ}
 
 -- ---- what an accepted call tells: t is the table that was lent, t′ the table after the call
 

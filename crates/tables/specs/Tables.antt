@@ -4,7 +4,7 @@ use mathlib.Core.Bool.{cond}
 use mathlib.Core.List.{List, []}
 use Prim.Native.Nat.{ℕ, _*_}
 use lib.Dec.{leb, ltb}
-use lib.ListN.{length, getD}
+use lib.ListN.{length, getD, take, drop}
 use lib.Seq.{sets}
 use Rattle.lists.specs.Lists.{joined}
 use Rattle.grid.specs.Window.{neighbours}
@@ -27,6 +27,10 @@ pub record TableSeen : Type 0 where
 
 abbrev pub tableSeen : TableAnswer → List ℕ → TableSeen
 tableSeen a t = record { answer = a; table = t }
+
+-- the row at place i of a table whose rows are g wide: of 0 1 0 1 0 1 0 0 and g = 3, the row at place 1 is 1 0 1
+abbrev pub rowAt : ℕ → List ℕ → ℕ → List ℕ
+rowAt g t i = take g (drop (i * g) t)
 
 -- a refusal leaves the table as it was
 abbrev pub refused : Refusal → List ℕ → TableSeen

@@ -1,0 +1,49 @@
+-- The answer of is_solvable to a line with a start: the verdict's text and the picture's, one behind the other, where the line is readable. Rests on the laws
+-- of the answer to a line, of the crate lines. Assumes nothing.
+use mathlib.Core.Path.{_≡_, subst}
+use mathlib.Core.Bool.{true, false}
+use mathlib.Core.List.{List}
+use Prim.Native.Nat.{ℕ, _≤_}
+use native.Mathlib.Omega.{arith}
+use lib.ListN.{length, take, replicate, length-replicate}
+use Rattle.verdict.specs.Verdict.{VerdictSeen, isSolvable}
+use Rattle.text.specs.Text.{Written}
+use Rattle.text.proofs.Writing.{written-both}
+use Rattle.lines.specs.declared.StartLine.{StartLine}
+use Rattle.lines.specs.Lines.{startLineOf, unreadableText}
+use Rattle.lines.proofs.Answered.{unreadable-told, readable-told}
+use Rattle.records.specs.Answers.{verdictText}
+use Rattle.records.proofs.Answering.{take-replicate}
+use Rattle.board_lines.specs.Verdicts.{pictureText, verdictSeenText, verdictOn, verdictLine}
+
+-- what the caller sees
+pub seen-written : {b first : List ℕ} {s : ℕ} {after : List ℕ} {r : ℕ} (w : VerdictSeen)
+    → Written b 0 (verdictText (w .answer)) first s → Written first s (pictureText (w .answer) (w .shown)) after r
+    → Written b 0 (verdictSeenText w) after r
+seen-written w verdict picture = written-both (omega arith) verdict picture
+
+-- the picture that is lent is the front of an array of zeros
+abbrev pub zeros : List ℕ
+zeros = replicate 1025 0
+
+pub zeros-long : (n : ℕ) → n ≤ 1025 → length (take n zeros) ≡ n
+zeros-long n h = rw (take-replicate {A = ℕ} n 1025 0 h) (length-replicate {A = ℕ} n 0)
+
+pub lent-zeros : (read : StartLine) → read .board .len ≤ 1025
+    → isSolvable (read .board .rows) (read .board .columns) (read .«start_row») (read .«start_column») (take (read .board .len) (read .board .cells))
+    (take (read .board .len) zeros)
+    ≡ verdictOn read
+lent-zeros read h = rw (take-replicate {A = ℕ} (read .board .len) 1025 0 h)
+
+-- the answer to a line
+module _ (line : List ℕ) (read : StartLine) (is : read ≡ startLineOf line) {b after : List ℕ} {r : ℕ} where
+  pub verdict-unreadable : read .board .readable ≡ false → Written b 0 unreadableText after r → Written b 0 (verdictLine line) after r
+  unfolding verdictLine
+  verdict-unreadable e w = unreadable-told (λ (l : StartLine). l .board .readable) is (λ (l : StartLine). verdictSeenText (verdictOn l)) e w
+
+  pub verdict-line-written : read .board .readable ≡ true → (w : VerdictSeen) → w ≡ verdictOn read
+      → Written b 0 (verdictSeenText w) after r → Written b 0 (verdictLine line) after r
+  unfolding verdictLine
+  verdict-line-written e w told h =
+      readable-told (λ (l : StartLine). l .board .readable) is (λ (l : StartLine). verdictSeenText (verdictOn l)) e
+      (subst (λ (x : VerdictSeen). Written b 0 (verdictSeenText x) after r) told h)

@@ -1,0 +1,112 @@
+-- `verdict_line` meets its contract: the call is made on the line's cells, at the front of their array, and on as many zeros, at the front of another; what it
+-- leaves there is printed with its answer. Rests on the laws of the answer to a line with a start, `VerdictWritten`. Assumes nothing.
+use mathlib.Core.Path.{_≡_, sym, _∙_}
+use mathlib.Core.List.{List, _++_}
+use Prim.Native.Nat.{ℕ, _≤_}
+use native.Mathlib.Omega.{arith}
+use lib.ListN.{length, take, drop, length-take, length-append}
+use lib.Seq.{take-at}
+use borrow.Author.Needs.{needs}
+use borrow.Author.Tests.{not-true, not-false}
+use Rattle.verdict.specs.Verdict.{verdictSeen}
+use Rattle.lines.specs.declared.Line.{Line}
+use Rattle.lines.proofs.CellsSoFar.{start-fits}
+use Rattle.board_lines.proofs.VerdictWritten.{zeros, zeros-long, lent-zeros, verdict-unreadable, verdict-line-written}
+use Rattle.board_lines.proofs.verdicts.verdict_line.Statement.{statement}
+use Rattle.board_lines.proofs.verdicts.verdict_line.Tie as tie
+
+-- the board that was read
+abbrev board : tie.After-read-start-line → Line
+board c = c .read-start-line .result .board
+
+-- its cells stand inside their array, which has 1025
+fits : (c : tie.After-read-start-line) → (board c .len ≤ length (board c .cells)) × (board c .len ≤ 1025)
+fits c = start-fits _ (c .read-start-line .result) (c .read-start-line .ensures)
+
+-- where the call has answered: the line that was read, and the picture that is left
+abbrev read : tie.After-is-solvable → tie.After-read-start-line
+read c = c .before .before .before .before .before .before .before
+
+abbrev shown : tie.After-is-solvable → List ℕ
+shown c = c .is-solvable .last .1 .1 .1 .1 .1 .0
+
+-- it is as long as the board has cells
+same-cells : (c : tie.After-is-solvable) → length (shown c) ≡ board (read c) .len
+same-cells c = c .is-solvable .kept .1 .1 .1 .1 .1 .0 ∙ zeros-long (board (read c) .len) (fits (read c) .1)
+
+-- so it is what stands in the place of the zeros that were lent
+front : (c : tie.After-is-solvable) → take (board (read c) .len) (shown c ++ drop (board (read c) .len) zeros) ≡ shown c
+front c = take-at (shown c) _ _ (same-cells c)
+
+read-start-line-requires : tie.Need-read-start-line-requires
+read-start-line-requires c κs = search needs
+
+slice-aggregate-put-bytes : tie.Need-slice-aggregate-put-bytes
+slice-aggregate-put-bytes c = search needs
+
+put-bytes-requires : tie.Need-put-bytes-requires
+put-bytes-requires c κs = search needs
+
+same-length : tie.Need-same-length
+same-length c = search needs
+
+returns : tie.Need-returns
+returns c =
+    let line = c .before .before .before .before .before .before .before .before in
+    verdict-unreadable _ (line .read-start-line .result) (line .read-start-line .ensures) (not-true (board line .readable) (c .before .before .before .before .before .if1 .taken))
+    (c .before .before .put-bytes .ensures)
+
+array-share-prefix-cells : tie.Need-array-share-prefix-cells
+array-share-prefix-cells c = fits (c .before .before .before .before) .0
+
+slice-aggregate-is-solvable : tie.Need-slice-aggregate-is-solvable
+slice-aggregate-is-solvable c = simp length-take (omega (arith, fits (c .before .before .before .before .before) .0))
+
+array-borrow-prefix-picture : tie.Need-array-borrow-prefix-picture
+array-borrow-prefix-picture c = omega (arith, fits (c .before .before .before .before .before) .1)
+
+slice-aggregate-is-solvable-2 : tie.Need-slice-aggregate-is-solvable-2
+slice-aggregate-is-solvable-2 c = let line = c .before .before .before .before .before .before in sym (zeros-long (board line .len) (fits line .1))
+
+is-solvable-requires : tie.Need-is-solvable-requires
+is-solvable-requires c κs = search needs
+
+array-share-prefix-picture : tie.Need-array-share-prefix-picture
+array-share-prefix-picture c = simp length-append (omega (arith, same-cells (c .before .before)))
+
+slice-aggregate-put-judged : tie.Need-slice-aggregate-put-judged
+slice-aggregate-put-judged c = let call = c .before .before .before in rw (front call) (sym (same-cells call))
+
+put-judged-requires : tie.Need-put-judged-requires
+put-judged-requires c κs = search needs
+
+same-length-2 : tie.Need-same-length-2
+same-length-2 c = search needs
+
+returns-2 : tie.Need-returns-2
+returns-2 c =
+    let call = c .before .before .before .before .before .before in
+    let line = read call in
+    verdict-line-written _ (line .read-start-line .result) (line .read-start-line .ensures) (not-false (board line .readable) (call .before .before .before .before .if1 .left))
+    (verdictSeen (call .is-solvable .result) (shown call)) (call .is-solvable .ensures .0 ∙ lent-zeros (line .read-start-line .result) (fits line .1))
+    (rw (front call) at (c .before .before .put-judged .ensures))
+
+pub verdict-line-spec : {M : Type 1} → statement M
+verdict-line-spec =
+    tie.close
+    (tie.spec
+    read-start-line-requires
+    slice-aggregate-put-bytes
+    put-bytes-requires
+    same-length
+    returns
+    array-share-prefix-cells
+    slice-aggregate-is-solvable
+    array-borrow-prefix-picture
+    slice-aggregate-is-solvable-2
+    is-solvable-requires
+    array-share-prefix-picture
+    slice-aggregate-put-judged
+    put-judged-requires
+    same-length-2
+    returns-2)

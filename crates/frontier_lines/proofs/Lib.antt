@@ -1,0 +1,2 @@
+-- The laws of the frontier's answer as text.
+pub mod FrontierWritten

@@ -1,0 +1,73 @@
+-- The answers of the calls that deduce to a line: `safe 1,5 mine 5 pos 0 12 0 1 1 11`, behind it the blocks left, ` blocks 0`, where the rule hands them out;
+-- `refused 6`, or `unreadable`. Each list that is lent has room for 1024 cells. Assumes nothing.
+use mathlib.Core.Bool.{cond}
+use mathlib.Core.List.{List, [], _∷_, _++_}
+use Prim.Native.Nat.{ℕ, _≤_}
+use lib.ListN.{length, take, replicate}
+use Rattle.refusals.specs.declared.Tested.{Tested}
+use Rattle.refusals.specs.declared.Tested.the-variants.{Accepted, Refused}
+use Rattle.refusals.specs.Refusals.{refusalNumber}
+use Rattle.blocks.specs.declared.BlockSet.{BlockSet}
+use Rattle.blocks.specs.BlockSets.{blocksOf, Whole}
+use Rattle.deductions.specs.Answers.{Seen, solveDirect, solveMinus, solveEnumerate}
+use Rattle.show.specs.Blocks.{numbersText, blocksText}
+use Rattle.show.specs.Cells.{cellsText}
+use Rattle.show.specs.Refusals.{refusedText}
+use Rattle.lines.specs.declared.Line.{Line}
+use Rattle.lines.specs.Lines.{lineOf, unreadableText}
+use Rattle.rule_lines.specs.declared.Rule.{Rule}
+use Rattle.rule_lines.specs.declared.Rule.the-variants.{Direct, Minus, Enumerate}
+
+-- `safe 1,5`
+abbrev pub safeText : List ℕ → List ℕ
+safeText l = (115 ∷ 97 ∷ 102 ∷ 101 ∷ 32 ∷ []) ++ numbersText l
+
+-- ` mine 5`
+abbrev pub mineText : List ℕ → List ℕ
+mineText l = (32 ∷ 109 ∷ 105 ∷ 110 ∷ 101 ∷ 32 ∷ []) ++ numbersText l
+
+-- ` pos 0 12 0 1 1 11`
+abbrev pub positionText : List ℕ → List ℕ
+positionText p = (32 ∷ 112 ∷ 111 ∷ 115 ∷ []) ++ cellsText p
+
+-- the three, one after another
+unfoldable pub foundText : Seen → List ℕ
+foundText w = safeText (take (w .answer .safe) (w .safe)) ++ (mineText (take (w .answer .mines) (w .mines)) ++ positionText (w .position))
+
+-- ` blocks 0`
+abbrev pub blocksLeftText : BlockSet → List ℕ
+blocksLeftText set = 32 ∷ blocksText (blocksOf set)
+
+-- the blocks left behind that; enumeration leaves none
+abbrev pub leftText : Rule → BlockSet → List ℕ
+leftText Direct set = blocksLeftText set
+leftText Minus set = blocksLeftText set
+leftText Enumerate set = []
+
+abbrev pub textAfter : Rule → Tested → Seen → List ℕ
+textAfter rule (Refused r) w = refusedText (refusalNumber r)
+textAfter rule Accepted w = foundText w ++ leftText rule (w .answer .blocks)
+
+-- what the caller of a rule sees, as text
+unfoldable pub deductionText : Rule → Seen → List ℕ
+deductionText rule w = textAfter rule (w .answer .tested) w
+
+-- the counts are within the lists, and the blocks can be read
+pub record Printable (w : Seen) : Type 0 where
+  pub safe-within : w .answer .safe ≤ length (w .safe)
+  pub mines-within : w .answer .mines ≤ length (w .mines)
+  pub blocks-whole : Whole (w .answer .blocks)
+
+-- a rule called on a position: what its caller sees
+unfoldable pub called : Rule → ℕ → ℕ → List ℕ → List ℕ → List ℕ → Seen
+called Direct rows columns p s m = solveDirect rows columns p s m
+called Minus rows columns p s m = solveMinus rows columns p s m
+called Enumerate rows columns p s m = solveEnumerate rows columns p s m
+
+-- its answer to a line's position
+abbrev pub calledOn : Rule → Line → Seen
+calledOn rule l = called rule (l .rows) (l .columns) (take (l .len) (l .cells)) (replicate 1024 0) (replicate 1024 0)
+
+-- a rule's answer to a line
+unfoldable pub deductionLine : Rule → List ℕ → List ℕ
+deductionLine rule line = cond (lineOf line .readable) (deductionText rule (calledOn rule (lineOf line))) unreadableText

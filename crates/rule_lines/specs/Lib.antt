@@ -1,0 +1,2 @@
+-- What the calls that deduce answer to a line of numbers.
+pub mod Deductions

@@ -1,0 +1,134 @@
+// The answers of the calls that deduce to a line of numbers: `refused 6`, or the two lists, the position with its marks, and the blocks left where the rule
+// hands them out.
+use blocks::BlockSet;
+use deductions::answer::DeductionAnswer;
+use deductions::solve_direct;
+use deductions::solve_enumerate;
+use deductions::solve_minus;
+use lines::read_line;
+use refusals::Tested;
+use show::put_blocks;
+use show::put_cells;
+use show::put_numbers;
+use show::put_refused;
+use text::put_bytes;
+ghost use mathlib.Core.Path.{_≡_};
+ghost use Prim.Native.Nat.{_≤_};
+ghost use lib.ListN.{length};
+ghost use Rattle.blocks.specs.BlockSets.{Whole};
+ghost use Rattle.deductions.specs.Answers.{seen};
+ghost use Rattle.text.specs.Text.{Written};
+ghost use Rattle.rule_lines.specs.Deductions.{called, Printable, foundText, blocksLeftText, leftText, deductionText, deductionLine};
+
+// The rules that can be called on a position.
+pub enum Rule {
+    Direct,
+    Minus,
+    Enumerate,
+}
+
+// A rule called on a position.
+fn call_rule(
+    rule: Rule,
+    rows: usize,
+    columns: usize,
+    position: &mut [u8],
+    safe: &mut [u16],
+    mines: &mut [u16],
+) -> DeductionAnswer
+    ensures { λ r. ⌜ seen r (now (position .exit)) (now (safe .exit)) (now (mines .exit)) ≡ called rule rows columns (now (position .entry)) (now (safe .entry)) (now (mines .entry)) ⌝ }
+{
+    match rule {
+        Rule::Direct => solve_direct(rows, columns, position, safe, mines),
+        Rule::Minus => solve_minus(rows, columns, position, safe, mines),
+        Rule::Enumerate => solve_enumerate(rows, columns, position, safe, mines),
+    }
+}
+
+// `safe 1,5 mine 5 pos 0 12 0 1 1 11`
+fn put_found(
+    out: &mut [u8],
+    answer: DeductionAnswer,
+    position: &[u8],
+    safe: &[u16],
+    mines: &[u16],
+) -> usize
+    requires { ⌜ Printable (seen answer (now position) (now safe) (now mines)) ⌝ }
+    ensures { λ r. ⌜ Written (now (out .entry)) 0 (foundText (seen answer (now (position .entry)) (now (safe .entry)) (now (mines .entry)))) (now (out .exit)) r ⌝ }
+{
+    let mut at = put_bytes(out, 0, b"safe ");
+    at = put_numbers(out, at, safe, 0, answer.safe);
+    at = put_bytes(out, at, b" mine ");
+    at = put_numbers(out, at, mines, 0, answer.mines);
+    at = put_bytes(out, at, b" pos");
+    put_cells(out, at, position)
+}
+
+// ` blocks 0`, from a place on.
+fn put_blocks_left(out: &mut [u8], at: usize, left: BlockSet) -> usize
+    requires { ⌜ at ≤ length (now out) ⌝ }
+    requires { ⌜ Whole left ⌝ }
+    ensures { λ r. ⌜ Written (now (out .entry)) at (blocksLeftText left) (now (out .exit)) r ⌝ }
+{
+    let gap = put_bytes(out, at, b" ");
+    put_blocks(out, gap, left)
+}
+
+// The blocks left, from a place on; nothing where the rule leaves none.
+fn put_left(out: &mut [u8], at: usize, rule: Rule, left: BlockSet) -> usize
+    requires { ⌜ at ≤ length (now out) ⌝ }
+    requires { ⌜ Whole left ⌝ }
+    ensures { λ r. ⌜ Written (now (out .entry)) at (leftText rule left) (now (out .exit)) r ⌝ }
+{
+    match rule {
+        Rule::Direct => put_blocks_left(out, at, left),
+        Rule::Minus => put_blocks_left(out, at, left),
+        Rule::Enumerate => at,
+    }
+}
+
+// What the caller of a rule sees.
+fn put_deduction(
+    out: &mut [u8],
+    rule: Rule,
+    answer: DeductionAnswer,
+    position: &[u8],
+    safe: &[u16],
+    mines: &[u16],
+) -> usize
+    requires { ⌜ Printable (seen answer (now position) (now safe) (now mines)) ⌝ }
+    ensures { λ r. ⌜ Written (now (out .entry)) 0 (deductionText rule (seen answer (now (position .entry)) (now (safe .entry)) (now (mines .entry)))) (now (out .exit)) r ⌝ }
+{
+    let tested = answer.tested;
+    match tested {
+        Tested::Refused(refusal) => put_refused(out, refusal),
+        Tested::Accepted => {
+            let at = put_found(out, answer, position, safe, mines);
+            let left = answer.blocks;
+            put_left(out, at, rule, left)
+        }
+    }
+}
+
+// The answer of a rule to a line. Each list that is lent has room for any board.
+pub fn deduction_line(rule: Rule, line: &[u8], out: &mut [u8]) -> usize
+    ensures { λ r. ⌜ Written (now (out .entry)) 0 (deductionLine rule (now (line .entry))) (now (out .exit)) r ⌝ }
+{
+    let read = read_line(line);
+    if !read.readable {
+        return put_bytes(out, 0, b"unreadable");
+    }
+    let mut cells = read.cells;
+    let len = read.len;
+    let mut safe = [0u16; 1024];
+    let mut mines = [0u16; 1024];
+    let answer = call_rule(
+        rule,
+        read.rows,
+        read.columns,
+        &mut cells[..len],
+        &mut safe,
+        &mut mines,
+    );
+    put_deduction(out, rule, answer, &cells[..len], &safe, &mines)
+}

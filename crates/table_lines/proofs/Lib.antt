@@ -1,0 +1,2 @@
+-- The laws of solution tables as text.
+pub mod TablesWritten
