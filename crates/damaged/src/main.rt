@@ -4,6 +4,8 @@ use reading::judge_records;
 
 // Prints the file's name and the answers to its records.
 fn judge_file(name: &[u8]) {
+    let mut input = io::large_buffer();
+    let mut out = io::large_buffer();
     io::write_all(1, name);
     io::write_all(1, b":\n");
     let fd = os::open_read(name);
@@ -11,7 +13,7 @@ fn judge_file(name: &[u8]) {
         os::fail(name);
         return;
     }
-    judge_records(fd);
+    judge_records(fd, &mut input, &mut out);
     libc::close(fd);
 }
 

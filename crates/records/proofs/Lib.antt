@@ -3,4 +3,3 @@ pub mod RecordKinds
 pub mod LineWritten
 pub mod Answering
 pub mod LineRoom
-pub mod Fronts

@@ -12,10 +12,7 @@ use Rattle.lists.proofs.Stores.{slice-stored}
 use Rattle.verdict.specs.declared.Verdict.{Verdict}
 use Rattle.verdict.specs.declared.Verdict.the-variants.{Refused, Judged}
 use Rattle.text.specs.Text.{decimalUpTo, decimal, Written}
-use Rattle.records.specs.declared.Record.{Record}
-use Rattle.records.specs.declared.Record.the-variants.{End, Damaged, Whole}
-use Rattle.records.specs.Records.{recordOf}
-use Rattle.records.specs.Answers.{verdictWord, verdictText, lineText, stepAfter, answered}
+use Rattle.records.specs.Answers.{verdictWord, verdictText, lineText}
 
 -- ---- lengths
 
@@ -41,18 +38,9 @@ verdict-few (Refused r) = simp length-append (omega (arith, decimal-few (refusal
 verdict-few (Judged solvable opened grade rounds) =
     simp length-append (omega (arith, word-few solvable, decimal-few opened, decimal-few grade, decimal-few rounds))
 
-line-few : (number : ℕ) (v : Verdict) → length (lineText number v) ≤ 88
+pub line-few : (number : ℕ) (v : Verdict) → length (lineText number v) ≤ 88
 unfolding lineText
 line-few number v = simp length-append (omega (arith, decimal-few number, verdict-few v))
-
-pub answered-few : (input : List ℕ) (number : ℕ) → length (answered input number .text) ≤ 88
-unfolding answered
-answered-few input number = go (recordOf input)
-  where
-    go : (r : Record) → length (stepAfter r input number .text) ≤ 88
-    go End = omega arith
-    go (Damaged refusal) = line-few number (Refused refusal)
-    go (Whole rows columns row column) = line-few number _
 
 -- ---- a text that fits stands whole at the buffer's front
 

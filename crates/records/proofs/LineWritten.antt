@@ -35,9 +35,9 @@ module _ {b : List ℕ} {at : ℕ} {first : List ℕ} {r : ℕ} {after : List �
       (written-both (written-within gap) strength
       (written-both (written-within strength) space passes)))))
 
-pub line-written : {b first : List ℕ} {r : ℕ} {second : List ℕ} {s : ℕ} {third : List ℕ} {t : ℕ} {after : List ℕ} {u : ℕ} (number : ℕ) (v : Verdict)
-    → Written b 0 (decimal number) first r → Written first r (32 ∷ []) second s → Written second s (verdictText v) third t → Written third t (10 ∷ []) after u
-    → Written b 0 (lineText number v) after u
+pub line-written : {b : List ℕ} {at : ℕ} {first : List ℕ} {r : ℕ} {second : List ℕ} {s : ℕ} {third : List ℕ} {t : ℕ} {after : List ℕ} {u : ℕ} (number : ℕ) (v : Verdict)
+    → at ≤ length b → Written b at (decimal number) first r → Written first r (32 ∷ []) second s → Written second s (verdictText v) third t → Written third t (10 ∷ []) after u
+    → Written b at (lineText number v) after u
 unfolding lineText
-line-written number v count gap verdict end =
-    written-both (omega arith) count (written-both (written-within count) gap (written-both (written-within gap) verdict end))
+line-written number v room count gap verdict end =
+    written-both room count (written-both (written-within count) gap (written-both (written-within gap) verdict end))

@@ -1,17 +1,22 @@
--- What a part of the input is, by its length and its first two bytes: each way through the definition is one law. And what a whole record tells: it stands inside the input,
--- and its head of six bytes inside it. Assumes nothing.
-use Prim.Native.Nat.{ℕ, _+_, _*_, _≤_, _<_}
-use mathlib.Core.Path.{_≡_, refl}
+-- What a part of the input is, by its length and its first two bytes: each way through the definition is one law. What a whole record tells: it stands inside the input,
+-- and its head of six bytes inside it. And what follows a whole record, or an unknown mark, plays no part in what it is. Assumes nothing.
+use Prim.Native.Nat.{ℕ, _+_, _-_, _*_, _≤_, _<_}
+use mathlib.Core.Path.{_≡_, refl, sym, _∙_}
+use mathlib.Core.Logic.{_⊎_, inl, inr}
 use mathlib.Core.Bool.{Bool, true, false, cond}
-use mathlib.Core.List.{List, [], _∷_}
+use mathlib.Core.List.{List, [], _∷_, _++_}
+use native.Mathlib.Decide.{decLt}
 use native.Mathlib.Nat.{mul-le-mul}
 use native.Mathlib.Omega.{arith}
 use lib.Dec.{ltb}
-use lib.ListN.{length, getD}
-use borrow.Author.Tests.{ltb-false, lt-ltb, le-ltb}
+use lib.ListN.{length, getD, drop, length-append, length-drop, List·getD-append}
+use lib.Seq.{take-append-le, drop-append-le}
+use borrow.Author.Tests.{lt-ltb, le-ltb}
+use Rattle.lists.proofs.Tests.{Decided, decided}
+use Rattle.refusals.specs.declared.Refusal.{Refusal}
 use Rattle.refusals.specs.declared.Refusal.the-variants.{Mark, Short}
 use Rattle.records.specs.declared.Record.the-variants.{End, Damaged, Whole}
-use Rattle.records.specs.Records.{recordLength, marked, recordOf}
+use Rattle.records.specs.Records.{recordLength, marked, recordOf, cellsIn}
 
 -- ---- a record's length
 
@@ -42,6 +47,15 @@ module _ (input : List ℕ) where
 -- a call's answer that is the length
 pub length-six : (input : List ℕ) {n : ℕ} → n ≡ recordLength input → 6 ≤ n
 length-six input e = omega (arith, six-or-more input)
+
+-- of bytes no record is longer than 65,031
+pub length-most : (input : List ℕ) → ((k : ℕ) → getD input k 0 < 256) → recordLength input ≤ 65031
+unfolding recordLength
+length-most input bytes = go (ltb (length input) 6)
+  where
+    go : (t : Bool) → cond t 6 (6 + getD input 2 0 * getD input 3 0) ≤ 65031
+    go true = omega arith
+    go false = omega (arith, bytes-product (getD input 2 0) (getD input 3 0) (bytes 2) (bytes 3))
 
 -- ---- what a part of the input is
 
@@ -75,17 +89,109 @@ record-whole [] h m s = absurd (omega arith)
 record-whole (x ∷ []) h m s = absurd (omega arith)
 record-whole (x ∷ y ∷ l) h m s = rw (m, le-ltb (length (x ∷ y ∷ l)) (recordLength (x ∷ y ∷ l)) s)
 
--- ---- a whole record stands inside the input
+-- ---- read back from what it is
 
-pub whole-inside : (input : List ℕ) (rows columns row column : ℕ) → recordOf input ≡ Whole rows columns row column → recordLength input ≤ length input
-unfolding recordOf
-whole-inside [] rows columns row column e = let z : _≡_ {A = ℕ} 0 1 = cc in absurd (omega arith)
-whole-inside (x ∷ []) rows columns row column e = let z : _≡_ {A = ℕ} 0 1 = cc in absurd (omega arith)
-whole-inside (x ∷ y ∷ l) rows columns row column e = go (marked x y) (ltb (length (x ∷ y ∷ l)) (recordLength (x ∷ y ∷ l))) refl e
+-- one of four kinds, each with what it tells
+pub data Kind (input : List ℕ) : Type 0 where
+  none : input ≡ [] → recordOf input ≡ End → Kind input
+  short : length input < recordLength input → recordOf input ≡ Damaged Short → Kind input
+  unmarked : 2 ≤ length input → marked (getD input 0 0) (getD input 1 0) ≡ false → recordOf input ≡ Damaged Mark → Kind input
+  whole : marked (getD input 0 0) (getD input 1 0) ≡ true → recordLength input ≤ length input
+      → recordOf input ≡ Whole (getD input 2 0) (getD input 3 0) (getD input 4 0) (getD input 5 0) → Kind input
+
+pub kind-of : (input : List ℕ) → Kind input
+kind-of [] = none refl (sym (record-none [] refl))
+kind-of (x ∷ []) = short (omega (arith, six-or-more (x ∷ []))) (sym (record-lone (x ∷ []) (λ h. omega arith) (omega arith)))
+kind-of (x ∷ y ∷ l) = go (decided (marked x y)) (decLt (length (x ∷ y ∷ l)) (recordLength (x ∷ y ∷ l)))
   where
-    go : (m s : Bool) → ltb (length (x ∷ y ∷ l)) (recordLength (x ∷ y ∷ l)) ≡ s
-        → cond m (cond s (Damaged Short) (Whole (getD (x ∷ y ∷ l) 2 0) (getD (x ∷ y ∷ l) 3 0) (getD (x ∷ y ∷ l) 4 0) (getD (x ∷ y ∷ l) 5 0))) (Damaged Mark) ≡ Whole rows columns row column
-        → recordLength (x ∷ y ∷ l) ≤ length (x ∷ y ∷ l)
-    go true true i f = let z : _≡_ {A = ℕ} 0 1 = cc in absurd (omega arith)
-    go true false i f = ltb-false (length (x ∷ y ∷ l)) (recordLength (x ∷ y ∷ l)) i
-    go false s i f = let z : _≡_ {A = ℕ} 0 1 = cc in absurd (omega arith)
+    two : 2 ≤ length (x ∷ y ∷ l)
+    two = omega arith
+
+    go : Decided (marked x y) → Dec (length (x ∷ y ∷ l) < recordLength (x ∷ y ∷ l)) → Kind (x ∷ y ∷ l)
+    go (inr m) s = unmarked two m (sym (record-unmarked (x ∷ y ∷ l) two m))
+    go (inl m) (yes s) = short s (sym (record-short (x ∷ y ∷ l) two m s))
+    go (inl m) (no s) = whole m (omega arith) (sym (record-whole (x ∷ y ∷ l) two m (omega arith)))
+
+module _ (input : List ℕ) where
+  -- the input has ended where nothing is left of it
+  pub end-nothing : recordOf input ≡ End → input ≡ []
+  end-nothing is = go (kind-of input)
+    where
+      go : Kind input → input ≡ []
+      go (none e _) = e
+      go (short _ k) = let z : _≡_ {A = ℕ} 0 1 = cc in absurd (omega arith)
+      go (unmarked _ _ k) = let z : _≡_ {A = ℕ} 0 1 = cc in absurd (omega arith)
+      go (whole _ _ k) = let z : _≡_ {A = ℕ} 0 1 = cc in absurd (omega arith)
+
+  -- a damaged record is cut short or has no mark
+  pub damaged-kinds : (refusal : Refusal) → recordOf input ≡ Damaged refusal → ((refusal ≡ Short) × (length input < recordLength input)) ⊎ (refusal ≡ Mark)
+  damaged-kinds refusal is = go (kind-of input)
+    where
+      go : Kind input → ((refusal ≡ Short) × (length input < recordLength input)) ⊎ (refusal ≡ Mark)
+      go (none _ k) = let z : _≡_ {A = ℕ} 0 1 = cc in absurd (omega arith)
+      go (short h k) = inl (cc, h)
+      go (unmarked _ _ k) = inr (cc)
+      go (whole _ _ k) = let z : _≡_ {A = ℕ} 0 1 = cc in absurd (omega arith)
+
+  -- a whole one is marked, and stands inside the input
+  pub whole-marked : (rows columns row column : ℕ) → recordOf input ≡ Whole rows columns row column
+      → (marked (getD input 0 0) (getD input 1 0) ≡ true) × (recordLength input ≤ length input)
+  whole-marked rows columns row column is = go (kind-of input)
+    where
+      go : Kind input → (marked (getD input 0 0) (getD input 1 0) ≡ true) × (recordLength input ≤ length input)
+      go (none _ k) = let z : _≡_ {A = ℕ} 0 1 = cc in absurd (omega arith)
+      go (short _ k) = let z : _≡_ {A = ℕ} 0 1 = cc in absurd (omega arith)
+      go (unmarked _ _ k) = let z : _≡_ {A = ℕ} 0 1 = cc in absurd (omega arith)
+      go (whole m h k) = (m, h)
+
+  pub whole-inside : (rows columns row column : ℕ) → recordOf input ≡ Whole rows columns row column → recordLength input ≤ length input
+  whole-inside rows columns row column is = whole-marked rows columns row column is .1
+
+-- ---- a part of the input, and the same part with more behind it
+
+-- the same record, of the same bytes
+pub record Beside (input longer : List ℕ) : Type 0 where
+  pub same-length : recordLength longer ≡ recordLength input
+  pub same-record : recordOf longer ≡ recordOf input
+  pub same-cells : cellsIn longer ≡ cellsIn input
+
+module _ (input rest : List ℕ) where
+  longer : length input ≤ length (input ++ rest)
+  longer = omega (arith, length-append input rest)
+
+  -- what stands in the part stands there still
+  at : (k : ℕ) → k < length input → getD (input ++ rest) k 0 ≡ getD input k 0
+  at k h = List·getD-append input rest 0 k h
+
+  -- a whole record
+  pub whole-beside : (rows columns row column : ℕ) → recordOf input ≡ Whole rows columns row column → Beside input (input ++ rest)
+  whole-beside rows columns row column is = record {
+    same-length = same-length;
+    same-record =
+        sym (record-whole (input ++ rest) (omega (arith, six, longer)) (rw (at 0 (omega (arith, six)), at 1 (omega (arith, six))) (known .0)) (omega (arith, same-length, known .1, longer)))
+        ∙ rw (at 2 (omega (arith, six)), at 3 (omega (arith, six)), at 4 (omega (arith, six)), at 5 (omega (arith, six))) (record-whole input (omega (arith, six)) (known .0) (known .1));
+    same-cells =
+        rw (same-length, drop-append-le 6 input rest six)
+        (take-append-le (recordLength input - 6) (drop 6 input) rest (omega (arith, length-drop 6 input, known .1)));
+  }
+    where
+      known : (marked (getD input 0 0) (getD input 1 0) ≡ true) × (recordLength input ≤ length input)
+      known = whole-marked input rows columns row column is
+
+      six : 6 ≤ length input
+      six = omega (arith, six-or-more input, known .1)
+
+      same-length : recordLength (input ++ rest) ≡ recordLength input
+      same-length =
+          sym (length-known (input ++ rest) (omega (arith, six, longer)))
+          ∙ rw (at 2 (omega (arith, six)), at 3 (omega (arith, six))) (length-known input six)
+
+  -- an unknown mark
+  pub mark-beside : recordOf input ≡ Damaged Mark → recordOf (input ++ rest) ≡ Damaged Mark
+  mark-beside is = go (kind-of input)
+    where
+      go : Kind input → recordOf (input ++ rest) ≡ Damaged Mark
+      go (none _ k) = let z : _≡_ {A = ℕ} 0 1 = cc in absurd (omega arith)
+      go (short _ k) = let z : _≡_ {A = ℕ} 0 1 = cc in absurd (omega arith)
+      go (unmarked h m k) = sym (record-unmarked (input ++ rest) (omega (arith, h, longer)) (rw (at 0 (omega (arith, h)), at 1 (omega (arith, h))) m))
+      go (whole _ _ k) = let z : _≡_ {A = ℕ} 0 1 = cc in absurd (omega arith)

@@ -1,6 +1,6 @@
--- The line that answers a record (document 01, "Board and position"): number, verdict, opened, grade, rounds; or number, `refused`, the refusal. And what is
--- done with a part of the input: 10 and 11 end the run after their line, the input's end without one. Assumes nothing.
-use mathlib.Core.Bool.{Bool, true, false, cond}
+-- The line that answers a record (document 01, "Board and position"): number, verdict, opened, grade, rounds; or number, `refused`, the refusal. And the verdict of a whole
+-- record. Assumes nothing.
+use mathlib.Core.Bool.{Bool, cond}
 use mathlib.Core.List.{List, [], _∷_, _++_}
 use Prim.Native.Nat.{ℕ}
 use lib.ListN.{replicate}
@@ -9,9 +9,7 @@ use Rattle.verdict.specs.declared.Verdict.{Verdict}
 use Rattle.verdict.specs.declared.Verdict.the-variants.{Refused, Judged}
 use Rattle.verdict.specs.Verdict.{isSolvable}
 use Rattle.text.specs.Text.{decimal}
-use Rattle.records.specs.declared.Record.{Record}
-use Rattle.records.specs.declared.Record.the-variants.{End, Damaged, Whole}
-use Rattle.records.specs.Records.{recordOf, cellsIn, pictureSize}
+use Rattle.records.specs.Records.{pictureSize}
 
 -- `yes ` and `no `
 abbrev pub verdictWord : Bool → List ℕ
@@ -26,16 +24,6 @@ verdictText (Judged v opened grade rounds) = verdictWord v ++ (decimal opened ++
 unfoldable pub lineText : ℕ → Verdict → List ℕ
 lineText number v = decimal number ++ (32 ∷ (verdictText v ++ (10 ∷ [])))
 
--- what a part of the input comes to: a line, or none, and whether the run goes on
-pub record Answered : Type 0 where
-  pub text : List ℕ
-  pub more : Bool
-
-abbrev pub stepAfter : Record → List ℕ → ℕ → Answered
-stepAfter End input number = record { text = []; more = false }
-stepAfter (Damaged r) input number = record { text = lineText number (Refused r); more = false }
-stepAfter (Whole rows columns row column) input number =
-    record { text = lineText number (isSolvable rows columns row column (cellsIn input) (replicate (pictureSize rows columns) 0) .answer); more = true }
-
-unfoldable pub answered : List ℕ → ℕ → Answered
-answered input number = stepAfter (recordOf input) input number
+-- the verdict of a record's board, lent a picture of zeros
+unfoldable pub boardVerdict : ℕ → ℕ → ℕ → ℕ → List ℕ → Verdict
+boardVerdict rows columns row column cells = isSolvable rows columns row column cells (replicate (pictureSize rows columns) 0) .answer

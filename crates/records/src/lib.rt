@@ -12,7 +12,7 @@ ghost use Prim.Native.Nat.{_≤_};
 ghost use lib.ListN.{length, replicate};
 ghost use Rattle.text.specs.Text.{Written};
 ghost use Rattle.records.specs.Records.{recordLength, marked, recordOf, pictureSize};
-ghost use Rattle.records.specs.Answers.{verdictWord, verdictText, lineText, answered};
+ghost use Rattle.records.specs.Answers.{verdictWord, verdictText, lineText, boardVerdict};
 
 // What a part of the input is that begins where a record should.
 pub enum Record {
@@ -22,12 +22,6 @@ pub enum Record {
     Damaged(Refusal),
     // A whole record: rows, columns, start row, start column.
     Whole(usize, usize, usize, usize),
-}
-
-// What is to be done after a part of the input: how many bytes of its line are written, and whether the run goes on.
-pub struct Step {
-    pub len: usize,
-    pub more: bool,
 }
 
 // A byte, as wide as a number.
@@ -111,11 +105,12 @@ pub fn put_verdict(out: &mut [u8], at: usize, verdict: Verdict) -> usize
     }
 }
 
-// The line of a record: its number, the verdict, the end of the line.
-pub fn put_line(out: &mut [u8], number: usize, verdict: Verdict) -> usize
-    ensures { λ r. ⌜ Written (now (out .entry)) 0 (lineText number verdict) (now (out .exit)) r ⌝ }
+// The line of a record, from a place on: its number, the verdict, the end of the line.
+pub fn put_line(out: &mut [u8], at: usize, number: usize, verdict: Verdict) -> usize
+    requires { ⌜ at ≤ length (now out) ⌝ }
+    ensures { λ r. ⌜ Written (now (out .entry)) at (lineText number verdict) (now (out .exit)) r ⌝ }
 {
-    let after = put_number(out, 0, number);
+    let after = put_number(out, at, number);
     let gap = put_byte(out, after, 32);
     let end = put_verdict(out, gap, verdict);
     put_byte(out, end, 10)
@@ -142,36 +137,17 @@ fn zeros() -> [u8; 1024]
     [0; 1024]
 }
 
-// Answers the record at the front of a part of the input, the `number`-th of the run, by its line; nothing is written where the input has ended.
-pub fn answer_record(input: &[u8], number: usize, out: &mut [u8]) -> Step
-    ensures { λ r. ⌜ Written (now (out .entry)) 0 (answered (now (input .entry)) number .text) (now (out .exit)) (r .len) ⌝ }
-    ensures { λ r. ⌜ r .more ≡ answered (now (input .entry)) number .more ⌝ }
+// The verdict of a record's board. The picture is lent for the time of the call.
+pub fn board_verdict(
+    rows: usize,
+    columns: usize,
+    row: usize,
+    column: usize,
+    cells: &[u8],
+) -> Verdict
+    ensures { λ r. ⌜ r ≡ boardVerdict rows columns row column (now (cells .entry)) ⌝ }
 {
-    match read_record(input) {
-        Record::End => Step {
-            len: 0,
-            more: false,
-        },
-        Record::Damaged(refusal) => Step {
-            len: put_line(out, number, Verdict::Refused(refusal)),
-            more: false,
-        },
-        Record::Whole(rows, columns, row, column) => {
-            let end = record_length(input);
-            let size = picture_size(rows, columns);
-            let mut picture = zeros();
-            let verdict = is_solvable(
-                rows,
-                columns,
-                row,
-                column,
-                &input[6..end],
-                &mut picture[..size],
-            );
-            Step {
-                len: put_line(out, number, verdict),
-                more: true,
-            }
-        }
-    }
+    let size = picture_size(rows, columns);
+    let mut picture = zeros();
+    is_solvable(rows, columns, row, column, cells, &mut picture[..size])
 }

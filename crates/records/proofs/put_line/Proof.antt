@@ -25,8 +25,8 @@ returns c =
     let verdict = end .before .before .before .before in
     let gap = verdict .before .before .before .before in
     let count = gap .before .before .before .before in
-    let a = count .before .before .before .args in
-    line-written (a .number) (a .verdict) (count .put-number .ensures) (gap .put-byte .ensures) (verdict .put-verdict .ensures) (end .put-byte2 .ensures)
+    let start = count .before .before .before in
+    line-written (start .args .number) (start .args .verdict) (start .pre) (count .put-number .ensures) (gap .put-byte .ensures) (verdict .put-verdict .ensures) (end .put-byte2 .ensures)
 
 pub put-line-spec : {M : Type 1} → statement M
 put-line-spec =

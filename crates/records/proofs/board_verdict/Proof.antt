@@ -1,0 +1,40 @@
+-- `board_verdict` meets its contract: the picture lent is as many zeros as the definition's. Assumes nothing.
+use mathlib.Core.Path.{ap}
+use native.Mathlib.Omega.{arith}
+use lib.ListN.{length, length-take}
+use Rattle.records.proofs.Answering.{verdict-of-zeros}
+use borrow.Author.Needs.{needs}
+use Rattle.records.proofs.board_verdict.Statement.{statement}
+use Rattle.records.proofs.board_verdict.Tie as tie
+
+picture-size-requires : tie.Need-picture-size-requires
+picture-size-requires c κs = search needs
+
+zeros-requires : tie.Need-zeros-requires
+zeros-requires c κs = search needs
+
+array-borrow-prefix-picture : tie.Need-array-borrow-prefix-picture
+array-borrow-prefix-picture c = search needs
+
+slice-aggregate-is-solvable : tie.Need-slice-aggregate-is-solvable
+slice-aggregate-is-solvable c = simp length-take (omega (arith, ap length (c .before .zeros .ensures)))
+
+is-solvable-requires : tie.Need-is-solvable-requires
+is-solvable-requires c κs = search needs
+
+returns : tie.Need-returns
+returns c =
+    let made = c .before .before .before in
+    let size = made .before .picture-size .ensures in
+    verdict-of-zeros _ _ _ _ _ _ _ (size .0) (size .1) (made .zeros .ensures) (c .before .is-solvable .ensures .0)
+
+pub board-verdict-spec : {M : Type 1} → statement M
+board-verdict-spec =
+    tie.close
+    (tie.spec
+    picture-size-requires
+    zeros-requires
+    array-borrow-prefix-picture
+    slice-aggregate-is-solvable
+    is-solvable-requires
+    returns)
