@@ -1,0 +1,36 @@
+-- Refusal 6 of the direct rule and of enumeration in words of the position: no block, no group and no order (document 01, "The three rules"). `near` gives the
+-- neighbours of a cell; p is the position that was lent. What the direct rule finds at a position stands in AtPosition of the crate rules. Assumes nothing.
+use mathlib.Core.Path.{_≡_}
+use mathlib.Core.Logic.{_↔_}
+use mathlib.Core.Bool.{Bool, true}
+use mathlib.Core.List.{List}
+use Prim.Native.Nat.{ℕ}
+use lib.ListN.{length}
+use Rattle.grid.specs.Cells.{shows}
+use Rattle.grid.specs.Window.{neighbours}
+use Rattle.refusals.specs.declared.Refusal.the-variants.{Contradiction}
+use Rattle.refusals.specs.declared.Tested.the-variants.{Accepted, Refused}
+use Rattle.refusals.specs.Tests.{deductionTested}
+use Rattle.sources.specs.Sources.{isSource}
+use Rattle.rules.specs.AtPosition.{minesWith, isContradictoryAt}
+use Rattle.deductions.specs.declared.answer.DeductionAnswer.{DeductionAnswer}
+
+-- mines placed on the closed cells as f says give each open cell with a closed neighbour its number
+abbrev pub Placing : (ℕ → List ℕ) → List ℕ → (ℕ → Bool) → Type 0
+Placing near p f = (d : ℕ) → isSource near p d ≡ true → minesWith near p f d ≡ shows p d
+
+-- no mines do
+abbrev pub NoPlacing : (ℕ → List ℕ) → List ℕ → Type 0
+NoPlacing near p = (f : ℕ → Bool) → Placing near p f → ⊥
+
+-- a call, lent the position p and the lists s and m, refuses with 6 exactly where tests 1 to 3 pass and a case is given
+abbrev pub RefusesExactly : Type 0 → ℕ → ℕ → List ℕ → List ℕ → List ℕ → DeductionAnswer → Type 0
+RefusesExactly case rows columns p s m r = (r .tested ≡ Refused Contradiction) ↔ ((deductionTested rows columns p (length s) (length m) ≡ Accepted) × case)
+
+-- solve_direct: an open cell with a closed neighbour shows fewer than the mines beside it, the known ones and those that the rule finds
+abbrev pub DirectRefuses : ℕ → ℕ → List ℕ → List ℕ → List ℕ → DeductionAnswer → Type 0
+DirectRefuses rows columns p s m r = RefusesExactly (isContradictoryAt (neighbours rows columns) p ≡ true) rows columns p s m r
+
+-- solve_enumerate: no mines on the closed cells give each open cell with a closed neighbour its number
+abbrev pub EnumerateRefuses : ℕ → ℕ → List ℕ → List ℕ → List ℕ → DeductionAnswer → Type 0
+EnumerateRefuses rows columns p s m r = RefusesExactly (NoPlacing (neighbours rows columns) p) rows columns p s m r
