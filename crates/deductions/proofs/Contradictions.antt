@@ -1,17 +1,18 @@
 -- Refusal 6 of the calls, from what they ensure alone: tests 1 to 3 never give it, so solve_direct refuses with it exactly where these pass and an open cell
 -- with a closed neighbour shows fewer than the mines known and found beside it, and solve_enumerate exactly where these pass and no mines on the closed
--- cells give each such cell its number. Rests on FromPosition of the crate rules and NoSolution of the crate solutions. Assumes nothing.
+-- cells give each such cell its number; solve_minus only there. Rests on FromPosition of the crate rules, on NoSolution of the crate solutions, and on the
+-- laws that the two first rules meet no contradiction where something solves the equations. Assumes nothing.
 use mathlib.Core.Path.{_≡_, refl, sym, ap, _∙_}
 use mathlib.Core.Logic.{inl, inr, _↔_}
-use mathlib.Core.Bool.{Bool, true, false, not, _&&_}
-use mathlib.Core.List.{List, [], _∷_}
+use mathlib.Core.Bool.{Bool, true, false, _&&_}
+use mathlib.Core.List.{List, [], _∷_, List·Memᴰ}
 use Prim.Native.Nat.{ℕ, zero, suc, _≤_}
 use native.Mathlib.Omega.{arith}
-use lib.Dec.{leb, eqb}
+use lib.Dec.{eqb}
 use lib.ListN.{length}
-use borrow.Author.Tests.{leb-true, le-leb}
+use borrow.Author.Tests.{le-leb}
 use Rattle.lists.specs.Lists.{empty}
-use Rattle.lists.proofs.Tests.{Decided, decided, clash, and-left}
+use Rattle.lists.proofs.Tests.{Decided, decided, clash}
 use Rattle.lists.proofs.Occurrences.{empty-nil}
 use Rattle.grid.specs.Cells.{shows}
 use Rattle.grid.specs.Window.{around, neighbours}
@@ -22,22 +23,28 @@ use Rattle.refusals.specs.declared.Tested.the-variants.{Accepted, Refused}
 use Rattle.refusals.specs.Refusals.{testedNumber, test, tested}
 use Rattle.refusals.specs.Tests.{sizeOk, lengthOk, roomOk, positionCellsOk, deductionTested}
 use Rattle.refusals.proofs.FirstFailure.{not-both}
-use Rattle.fitting.specs.Layouts.{mineAt, Fits}
+use Rattle.fitting.specs.Layouts.{Fits}
 use Rattle.fitting.specs.Equations.{Holds, equationAt}
-use Rattle.fitting.proofs.Frontier.{layoutOf, fits-holds, holds-fits}
-use Rattle.blocks.specs.Blocks.{Block}
+use Rattle.fitting.proofs.Frontier.{layoutOf, holds-fits}
+use Rattle.blocks.specs.Blocks.{BlockEquation, Block, says}
+use Rattle.blocks.specs.BlockSets.{allEquations}
 use Rattle.sources.specs.Sources.{closedBeside, sources}
 use Rattle.sources.specs.Equations.{knownBeside}
 use Rattle.frontier.specs.Frontier.{frontier}
+use Rattle.frontier.proofs.BlockLaws.{frontier-proper}
+use Rattle.frontier.proofs.Fitting.{sources-solve}
 use Rattle.rules.specs.Found.{Found}
 use Rattle.rules.specs.Direct.{direct}
 use Rattle.rules.specs.AtPosition.{isContradictoryAt}
+use Rattle.rules.proofs.DirectLaws.{direct-no-contradiction}
 use Rattle.rules.proofs.FromPosition.{direct-contradiction-at}
+use Rattle.subtraction.specs.Minus.{subtraction}
+use Rattle.subtraction.proofs.MinusLaws.{subtraction-no-contradiction}
 use Rattle.solutions.specs.Enumeration.{enumerated}
 use Rattle.solutions.proofs.BoardRules.{neighbours-few-everywhere}
 use Rattle.solutions.proofs.NoSolution.{enumeration-contradiction-at}
-use Rattle.deductions.specs.Answers.{Seen, seen, refusedAnswer, afterTests, deduction, solveDirect, solveEnumerate}
-use Rattle.deductions.specs.Contradictions.{Placing, NoPlacing, RefusesExactly, DirectRefuses, EnumerateRefuses}
+use Rattle.deductions.specs.Answers.{Seen, seen, refusedAnswer, afterTests, deduction, solveDirect, solveMinus, solveEnumerate}
+use Rattle.deductions.specs.Contradictions.{Placing, NoPlacing, TestsPass, DirectRefuses, MinusRefuses, EnumerateRefuses}
 use Rattle.deductions.specs.declared.answer.DeductionAnswer.{DeductionAnswer}
 use Rattle.deductions.proofs.Handed.{after-contradiction, after-lists}
 
@@ -76,44 +83,79 @@ module _ (f : Found) (p s m : List ℕ) (r : DeductionAnswer) (p′ s′ m′ : 
   six-from-call (Refused x) e a k = not-both (Refused x) x a refl
   six-from-call Accepted e a k = ap (λ (v : Seen). v .answer .tested) (e ∙ after-contradiction f p s m k)
 
--- so a rule that meets a contradiction exactly in a case refuses exactly there
-call-refuses : (rule : List Block → Found) (case : Type 0) (rows columns : ℕ) (p s m : List ℕ) (r : DeductionAnswer) (p′ s′ m′ : List ℕ)
-    → (rule (frontier (neighbours rows columns) p) .contradiction ≡ true) ↔ case
-    → seen r p′ s′ m′ ≡ deduction rule rows columns p s m → RefusesExactly case rows columns p s m r
-call-refuses rule case rows columns p s m r p′ s′ m′ exactly call =
-    let t = deductionTested rows columns p (length s) (length m) in
-    let f = rule (frontier (neighbours rows columns) p) in (
-      λ a. let (accepted, k) = six-from-rule f p s m r p′ s′ m′ t (tests-never-six rows columns p (length s) (length m)) call a in (accepted, exactly .0 k),
-      λ (accepted, k). six-from-call f p s m r p′ s′ m′ t call accepted (exactly .1 k),
-    )
+-- so where a rule meets a contradiction only in a case, its call refuses with 6 only there
+module _ (rule : List Block → Found) (case : Type 0) (rows columns : ℕ) (p s m : List ℕ) (r : DeductionAnswer) (p′ s′ m′ : List ℕ)
+    (call : seen r p′ s′ m′ ≡ deduction rule rows columns p s m) where
+  call-refuses-only : (rule (frontier (neighbours rows columns) p) .contradiction ≡ true → case) → r .tested ≡ Refused Contradiction → TestsPass rows columns p s m × case
+  call-refuses-only only a =
+      let (accepted, k) =
+      six-from-rule (rule (frontier (neighbours rows columns) p)) p s m r p′ s′ m′ (deductionTested rows columns p (length s) (length m))
+      (tests-never-six rows columns p (length s) (length m)) call a in
+      (accepted, only k)
 
--- ---- the two calls
+  -- and where exactly in a case, exactly there
+  call-refuses : (rule (frontier (neighbours rows columns) p) .contradiction ≡ true) ↔ case → (r .tested ≡ Refused Contradiction) ↔ (TestsPass rows columns p s m × case)
+  call-refuses exactly = (
+    call-refuses-only (exactly .0),
+    λ (accepted, k). six-from-call (rule (frontier (neighbours rows columns) p)) p s m r p′ s′ m′ (deductionTested rows columns p (length s) (length m)) call accepted (exactly .1 k),
+  )
+
+-- ---- the three rules on a board
+
+module _ (rows columns : ℕ) (p : List ℕ) where
+  abbrev near : ℕ → List ℕ
+  near = neighbours rows columns
+
+  -- the direct rule meets a contradiction exactly where an open cell with a closed neighbour shows too few
+  direct-meets : (direct (frontier near p) .contradiction ≡ true) ↔ (isContradictoryAt near p ≡ true)
+  direct-meets = (λ k. sym at ∙ k, λ k. at ∙ k)
+    where
+      at : direct (frontier near p) .contradiction ≡ isContradictoryAt near p
+      at = direct-contradiction-at near p (neighbours-nodup rows columns) (neighbours-few-everywhere rows columns)
+
+  -- a placing solves every equation
+  placing-solves : (f : ℕ → Bool) → Placing near p f
+      → (e : BlockEquation) → List·Memᴰ e (allEquations (frontier near p)) → Holds f (says e)
+  placing-solves = sources-solve near p (neighbours-nodup rows columns) (neighbours-few-everywhere rows columns)
+
+  -- so there is none where the direct rule meets a contradiction: where solve_direct refuses with 6, solve_enumerate does
+  pub contradictory-no-placing : isContradictoryAt near p ≡ true → NoPlacing near p
+  contradictory-no-placing h f s =
+      clash (direct (frontier near p) .contradiction) (direct-meets .1 h) (direct-no-contradiction (frontier near p) f (placing-solves f s))
+
+  -- nor where subtraction does
+  minus-meets : subtraction (frontier near p) .contradiction ≡ true → NoPlacing near p
+  minus-meets h f s =
+      clash (subtraction (frontier near p) .contradiction) h
+      (subtraction-no-contradiction (frontier near p) f (λ b m. frontier-proper near p b m .equations-once) (placing-solves f s))
+
+-- ---- the calls
 
 module _ (rows columns : ℕ) (p s m : List ℕ) (r : DeductionAnswer) (p′ s′ m′ : List ℕ) where
   -- solve_direct
   pub direct-refuses-exactly : seen r p′ s′ m′ ≡ solveDirect rows columns p s m → DirectRefuses rows columns p s m r
   unfolding solveDirect
-  direct-refuses-exactly = call-refuses direct (isContradictoryAt (neighbours rows columns) p ≡ true) rows columns p s m r p′ s′ m′ (λ k. sym at ∙ k, λ k. at ∙ k)
-    where
-      at : direct (frontier (neighbours rows columns) p) .contradiction ≡ isContradictoryAt (neighbours rows columns) p
-      at = direct-contradiction-at (neighbours rows columns) p (neighbours-nodup rows columns) (neighbours-few-everywhere rows columns)
+  direct-refuses-exactly call =
+      call-refuses direct (isContradictoryAt (neighbours rows columns) p ≡ true) rows columns p s m r p′ s′ m′ call (direct-meets rows columns p)
+
+  -- solve_minus
+  pub minus-refuses-only : seen r p′ s′ m′ ≡ solveMinus rows columns p s m → MinusRefuses rows columns p s m r
+  unfolding solveMinus
+  minus-refuses-only call =
+      call-refuses-only subtraction (NoPlacing (neighbours rows columns) p) rows columns p s m r p′ s′ m′ call (minus-meets rows columns p)
 
   -- solve_enumerate
   pub enumerate-refuses-exactly : seen r p′ s′ m′ ≡ solveEnumerate rows columns p s m → EnumerateRefuses rows columns p s m r
   unfolding solveEnumerate
-  enumerate-refuses-exactly =
-      call-refuses enumerated (NoPlacing (neighbours rows columns) p) rows columns p s m r p′ s′ m′
+  enumerate-refuses-exactly call =
+      call-refuses enumerated (NoPlacing (neighbours rows columns) p) rows columns p s m r p′ s′ m′ call
       (enumeration-contradiction-at (neighbours rows columns) p (neighbours-nodup rows columns) (neighbours-few-everywhere rows columns))
 
 -- ---- placings and layouts
 
 module _ (near : ℕ → List ℕ) (p : List ℕ) where
-  -- a layout that fits is a placing: where there is none, no layout fits
-  pub fits-placing : (m : List Bool) → Fits near p m → Placing near p (mineAt m)
-  fits-placing m fit d h =
-      fits-holds near p m fit d (leb-true (shows p d) 8 (and-left (leb (shows p d) 8) (not (empty (closedBeside near p d))) h))
-
-  -- and a placing makes a layout that fits, where each open cell without a closed neighbour shows its known mines
+  -- a layout that fits is a placing (`fits-sources` of the crate frontier); and a placing makes a layout that fits, where each open cell without a closed
+  -- neighbour shows its known mines
   pub placing-fits : (f : ℕ → Bool) → Placing near p f
       → ((d : ℕ) → shows p d ≤ 8 → empty (closedBeside near p d) ≡ true → knownBeside near p d ≡ shows p d)
       → Fits near p (layoutOf p f)

@@ -1,5 +1,6 @@
--- Refusal 6 of the direct rule and of enumeration in words of the position: no block, no group and no order (document 01, "The three rules"). `near` gives the
--- neighbours of a cell; p is the position that was lent. What the direct rule finds at a position stands in AtPosition of the crate rules. Assumes nothing.
+-- Refusal 6 of the calls in words of the position: no block, no group and no order (document 01, "The three rules"). `near` gives the neighbours of a cell;
+-- p is the position that was lent. What the direct rule finds at a position stands in AtPosition of the crate rules. Of subtraction it is said only one
+-- way: a block that it empties is dropped, its remainders unread, so that blocks would have to be named. Assumes nothing.
 use mathlib.Core.Path.{_≡_}
 use mathlib.Core.Logic.{_↔_}
 use mathlib.Core.Bool.{Bool, true}
@@ -23,14 +24,18 @@ Placing near p f = (d : ℕ) → isSource near p d ≡ true → minesWith near p
 abbrev pub NoPlacing : (ℕ → List ℕ) → List ℕ → Type 0
 NoPlacing near p = (f : ℕ → Bool) → Placing near p f → ⊥
 
--- a call, lent the position p and the lists s and m, refuses with 6 exactly where tests 1 to 3 pass and a case is given
-abbrev pub RefusesExactly : Type 0 → ℕ → ℕ → List ℕ → List ℕ → List ℕ → DeductionAnswer → Type 0
-RefusesExactly case rows columns p s m r = (r .tested ≡ Refused Contradiction) ↔ ((deductionTested rows columns p (length s) (length m) ≡ Accepted) × case)
+-- tests 1 to 3 pass of a call that is lent the position p and the lists s and m
+abbrev pub TestsPass : ℕ → ℕ → List ℕ → List ℕ → List ℕ → Type 0
+TestsPass rows columns p s m = deductionTested rows columns p (length s) (length m) ≡ Accepted
 
--- solve_direct: an open cell with a closed neighbour shows fewer than the mines beside it, the known ones and those that the rule finds
+-- solve_direct refuses with 6 exactly where the tests pass and an open cell with a closed neighbour shows fewer than the mines known and found beside it
 abbrev pub DirectRefuses : ℕ → ℕ → List ℕ → List ℕ → List ℕ → DeductionAnswer → Type 0
-DirectRefuses rows columns p s m r = RefusesExactly (isContradictoryAt (neighbours rows columns) p ≡ true) rows columns p s m r
+DirectRefuses rows columns p s m r = (r .tested ≡ Refused Contradiction) ↔ (TestsPass rows columns p s m × (isContradictoryAt (neighbours rows columns) p ≡ true))
 
--- solve_enumerate: no mines on the closed cells give each open cell with a closed neighbour its number
+-- solve_minus only where the tests pass and no mines on the closed cells give each open cell with a closed neighbour its number
+abbrev pub MinusRefuses : ℕ → ℕ → List ℕ → List ℕ → List ℕ → DeductionAnswer → Type 0
+MinusRefuses rows columns p s m r = r .tested ≡ Refused Contradiction → TestsPass rows columns p s m × NoPlacing (neighbours rows columns) p
+
+-- solve_enumerate exactly there
 abbrev pub EnumerateRefuses : ℕ → ℕ → List ℕ → List ℕ → List ℕ → DeductionAnswer → Type 0
-EnumerateRefuses rows columns p s m r = RefusesExactly (NoPlacing (neighbours rows columns) p) rows columns p s m r
+EnumerateRefuses rows columns p s m r = (r .tested ≡ Refused Contradiction) ↔ (TestsPass rows columns p s m × NoPlacing (neighbours rows columns) p)

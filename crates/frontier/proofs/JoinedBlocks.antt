@@ -1,37 +1,31 @@
 -- All blocks of the frontier at once. Mines that give each open cell with a closed neighbour its number solve every block, and the other way round; and where
 -- each block is solved by mines of its own, these join into one placing that solves them all, since no cell stands in two blocks. `near` lists at most
--- eight neighbours of a cell, none twice. Rests on BlockLaws, on Coverage and on Partition of the crate growth. Assumes nothing.
+-- eight neighbours of a cell, none twice. Rests on BlockLaws, Coverage and Fitting, and on Partition of the crate growth. Assumes nothing.
 use mathlib.Core.Path.{_≡_, refl, sym, subst}
-use mathlib.Core.Logic.{_⊎_, inl, inr, _↔_}
+use mathlib.Core.Logic.{_⊎_, inl, inr}
 use mathlib.Core.Bool.{Bool, true, false, not, cond}
 use mathlib.Core.List.{List, [], _∷_, List·Memᴰ, List·Memᴰ·head, List·Memᴰ·tail, List·Memᴰ·not-nil, List·Memᴰ·cases-cons, Memᴰ·map}
 use Prim.Native.Nat.{ℕ, _≤_}
 use lib.Dec.{leb}
 use lib.ListN.{length}
 use borrow.Author.Tests.{leb-true, not-true}
-use Rattle.lists.specs.Lists.{range, empty, has, nodup}
+use Rattle.lists.specs.Lists.{empty, has, nodup}
 use Rattle.lists.proofs.Tests.{Decided, decided, clash, and-left, and-right}
-use Rattle.lists.proofs.Members.{kept-passes}
 use Rattle.lists.proofs.Counts.{count-ext}
 use Rattle.lists.proofs.Among.{among-right, among-nodup}
 use Rattle.lists.proofs.TurnedRound.{nodup-apart}
 use Rattle.grid.specs.Cells.{shows}
-use Rattle.fitting.specs.Equations.{Holds, equationAt}
-use Rattle.blocks.specs.Blocks.{BlockEquation, Block, says}
+use Rattle.blocks.specs.Blocks.{Block}
 use Rattle.blocks.specs.BlockSets.{allCells}
 use Rattle.sources.specs.Sources.{closedBeside, isSource, sources}
 use Rattle.sources.proofs.ListedSources.{source-listed}
-use Rattle.growth.proofs.Partition.{source-in-part, part-has-sources}
+use Rattle.growth.proofs.Partition.{source-in-part}
 use Rattle.frontier.specs.Frontier.{equationOf, cellsMet, blockOf, frontier}
-use Rattle.frontier.proofs.BlockLaws.{Proper, Origin, block-cell, block-equation, source-equation, equation-says, equation-origin, frontier-proper}
+use Rattle.frontier.proofs.BlockLaws.{Proper, block-cell, block-equation, source-equation, equation-says, frontier-proper}
 use Rattle.frontier.proofs.Coverage.{frontier-once}
-use Rattle.frontier.proofs.Fitting.{Solves}
+use Rattle.frontier.proofs.Fitting.{Solves, SolvesSources, sources-solve}
 
--- mines placed as f says solve the equation of each open cell with a closed neighbour
-abbrev pub SolvesSources : (ℕ → List ℕ) → List ℕ → (ℕ → Bool) → Type 0
-SolvesSources near p f = (d : ℕ) → isSource near p d ≡ true → Holds f (equationAt near p d)
-
--- they solve each of some blocks
+-- mines placed as f says solve each of some blocks
 abbrev pub SolvesEach : (ℕ → Bool) → List Block → Type 0
 SolvesEach f bs = (b : Block) → List·Memᴰ b bs → Solves f b
 
@@ -73,26 +67,15 @@ solutions-join (b ∷ bs) proper once each =
 -- ---- the blocks of a frontier
 
 module _ (near : ℕ → List ℕ) (p : List ℕ) (once : (c : ℕ) → nodup (near c) ≡ true) (few : (c : ℕ) → length (near c) ≤ 8) where
-  -- a listed source passes the test of one
-  listed-passes : (d : ℕ) → has (sources near p) d ≡ true → isSource near p d ≡ true
-  unfolding sources
-  listed-passes d h = kept-passes (isSource near p) (range 0 (length p)) d h
-
-  -- and back
+  -- what passes the test of a source is one
   passes-listed : (d : ℕ) → isSource near p d ≡ true → has (sources near p) d ≡ true
   passes-listed d h =
       source-listed near p d (leb-true (shows p d) 8 (and-left (leb (shows p d) 8) (not (empty (closedBeside near p d))) h))
       (not-true _ (and-right (leb (shows p d) 8) (not (empty (closedBeside near p d))) h))
 
   -- what gives each open cell with a closed neighbour its number solves every block
-  pub sources-solve : (f : ℕ → Bool) → SolvesSources near p f → SolvesEach f (frontier near p)
-  sources-solve f s b k i = go (equation-origin near p (i .0) (block-equation (frontier near p) b (i .0) k (i .1)))
-    where
-      go : Origin near p (i .0) → Holds f (says (i .0))
-      go o =
-          rw (o .same)
-          (equation-says near p (o .part) (o .source) (o .of-part) (once (o .source)) (few (o .source)) f .1
-          (s (o .source) (listed-passes (o .source) (part-has-sources near p (o .part) (o .of-frontier) (o .source) (o .of-part)))))
+  pub sources-solve-blocks : (f : ℕ → Bool) → SolvesSources near p f → SolvesEach f (frontier near p)
+  sources-solve-blocks f s b k i = sources-solve near p once few f s (i .0) (block-equation (frontier near p) b (i .0) k (i .1))
 
   -- and what solves every block gives each its number
   pub blocks-solve : (f : ℕ → Bool) → SolvesEach f (frontier near p) → SolvesSources near p f

@@ -13,7 +13,8 @@ use Rattle.lists.proofs.Occurrences.{any-in, in-any}
 use Rattle.blocks.specs.Blocks.{Block}
 use Rattle.frontier.specs.Frontier.{frontier}
 use Rattle.frontier.proofs.BlockLaws.{frontier-proper}
-use Rattle.frontier.proofs.JoinedBlocks.{SolvesSources, sources-solve, blocks-joined}
+use Rattle.frontier.proofs.Fitting.{SolvesSources}
+use Rattle.frontier.proofs.JoinedBlocks.{sources-solve-blocks, blocks-joined}
 use Rattle.search.specs.Solutions.{solutions}
 use Rattle.solutions.specs.Enumeration.{unsolvable, enumerated}
 use Rattle.solutions.proofs.EnumerationLaws.{no-row-no-solution, row-solved}
@@ -32,7 +33,7 @@ module _ (near : ℕ → List ℕ) (p : List ℕ) (once : (c : ℕ) → nodup (n
   unsolvable-none : unsolvable (frontier near p) ≡ true → (f : ℕ → Bool) → SolvesSources near p f → ⊥
   unsolvable-none h f s =
       let (b, k, e) = any-in (λ (x : Block). empty (solutions x)) (frontier near p) h in
-      no-row-no-solution b (frontier-proper near p b k) e f (sources-solve near p once few f s b k)
+      no-row-no-solution b (frontier-proper near p b k) e f (sources-solve-blocks near p once few f s b k)
 
   -- where every block has a solution, there are such mines
   pub solvable-some : unsolvable (frontier near p) ≡ false → (f : ℕ → Bool) × SolvesSources near p f
