@@ -17,7 +17,7 @@ use Rattle.lists.proofs.Occurrences.{empty-nil}
 use Rattle.grid.specs.Cells.{shows}
 use Rattle.grid.specs.Window.{around, neighbours}
 use Rattle.grid.proofs.Neighbours.{neighbours-nodup}
-use Rattle.refusals.specs.declared.Refusal.the-variants.{Size, Length, Cell, Contradiction}
+use Rattle.refusals.specs.declared.Refusal.the-variants.{Size, Length, Cell}
 use Rattle.refusals.specs.declared.Tested.{Tested}
 use Rattle.refusals.specs.declared.Tested.the-variants.{Accepted, Refused}
 use Rattle.refusals.specs.Refusals.{testedNumber, test, tested}
@@ -50,43 +50,47 @@ use Rattle.deductions.proofs.Handed.{after-contradiction, after-lists}
 
 -- ---- the tests
 
--- three tests, none of which gives a contradiction
-three-tests : (size length cell : Bool) → tested (test size Size ∷ test length Length ∷ test cell Cell ∷ []) ≡ Refused Contradiction → ⊥
-three-tests false length cell h = omega (arith, ap testedNumber h)
-three-tests true false cell h = omega (arith, ap testedNumber h)
-three-tests true true false h = omega (arith, ap testedNumber h)
-three-tests true true true h = omega (arith, ap testedNumber h)
+-- three tests, none of which gives 6
+three-tests : (size length cell : Bool) → testedNumber (tested (test size Size ∷ test length Length ∷ test cell Cell ∷ [])) ≡ 6 → ⊥
+three-tests false length cell h = omega arith
+three-tests true false cell h = omega arith
+three-tests true true false h = omega arith
+three-tests true true true h = omega arith
 
 -- those of a deduction
-pub tests-never-six : (rows columns : ℕ) (p : List ℕ) (s m : ℕ) → deductionTested rows columns p s m ≡ Refused Contradiction → ⊥
+pub tests-never-six : (rows columns : ℕ) (p : List ℕ) (s m : ℕ) → testedNumber (deductionTested rows columns p s m) ≡ 6 → ⊥
 unfolding deductionTested
 tests-never-six rows columns p s m h =
     three-tests (sizeOk 1 rows columns) (lengthOk rows columns (length p) && (roomOk rows columns s && roomOk rows columns m)) (positionCellsOk p) h
 
 -- ---- a call of any rule
 
+-- the number that a caller sees
+abbrev numberOf : Seen → ℕ
+numberOf w = testedNumber (w .answer .tested)
+
 module _ (f : Found) (p s m : List ℕ) (r : DeductionAnswer) (p′ s′ m′ : List ℕ) where
   -- refusal 6 is the rule's, where the tests do not give it
-  six-from-rule : (t : Tested) → (t ≡ Refused Contradiction → ⊥) → seen r p′ s′ m′ ≡ afterTests t f p s m → r .tested ≡ Refused Contradiction
+  six-from-rule : (t : Tested) → (testedNumber t ≡ 6 → ⊥) → seen r p′ s′ m′ ≡ afterTests t f p s m → testedNumber (r .tested) ≡ 6
       → (t ≡ Accepted) × (f .contradiction ≡ true)
   unfolding refusedAnswer
-  six-from-rule (Refused x) never e a = absurd (never (sym (ap (λ (v : Seen). v .answer .tested) e) ∙ a))
+  six-from-rule (Refused x) never e a = absurd (never (sym (ap numberOf e) ∙ a))
   six-from-rule Accepted never e a = (refl, go (decided (f .contradiction)))
     where
       go : Decided (f .contradiction) → f .contradiction ≡ true
       go (inl k) = k
-      go (inr k) = not-both (r .tested) Contradiction (ap (λ (v : Seen). v .answer .tested) (e ∙ after-lists f p s m k)) a
+      go (inr k) = absurd (omega (arith, ap numberOf (e ∙ after-lists f p s m k)))
 
   -- and the rule's is the call's, where they accept
-  six-from-call : (t : Tested) → seen r p′ s′ m′ ≡ afterTests t f p s m → t ≡ Accepted → f .contradiction ≡ true → r .tested ≡ Refused Contradiction
+  six-from-call : (t : Tested) → seen r p′ s′ m′ ≡ afterTests t f p s m → t ≡ Accepted → f .contradiction ≡ true → testedNumber (r .tested) ≡ 6
   unfolding refusedAnswer
   six-from-call (Refused x) e a k = not-both (Refused x) x a refl
-  six-from-call Accepted e a k = ap (λ (v : Seen). v .answer .tested) (e ∙ after-contradiction f p s m k)
+  six-from-call Accepted e a k = ap numberOf (e ∙ after-contradiction f p s m k)
 
 -- so where a rule meets a contradiction only in a case, its call refuses with 6 only there
 module _ (rule : List Block → Found) (case : Type 0) (rows columns : ℕ) (p s m : List ℕ) (r : DeductionAnswer) (p′ s′ m′ : List ℕ)
     (call : seen r p′ s′ m′ ≡ deduction rule rows columns p s m) where
-  call-refuses-only : (rule (frontier (neighbours rows columns) p) .contradiction ≡ true → case) → r .tested ≡ Refused Contradiction → TestsPass rows columns p s m × case
+  call-refuses-only : (rule (frontier (neighbours rows columns) p) .contradiction ≡ true → case) → testedNumber (r .tested) ≡ 6 → TestsPass rows columns p s m × case
   call-refuses-only only a =
       let (accepted, k) =
       six-from-rule (rule (frontier (neighbours rows columns) p)) p s m r p′ s′ m′ (deductionTested rows columns p (length s) (length m))
@@ -94,7 +98,7 @@ module _ (rule : List Block → Found) (case : Type 0) (rows columns : ℕ) (p s
       (accepted, only k)
 
   -- and where exactly in a case, exactly there
-  call-refuses : (rule (frontier (neighbours rows columns) p) .contradiction ≡ true) ↔ case → (r .tested ≡ Refused Contradiction) ↔ (TestsPass rows columns p s m × case)
+  call-refuses : (rule (frontier (neighbours rows columns) p) .contradiction ≡ true) ↔ case → (testedNumber (r .tested) ≡ 6) ↔ (TestsPass rows columns p s m × case)
   call-refuses exactly = (
     call-refuses-only (exactly .0),
     λ (accepted, k). six-from-call (rule (frontier (neighbours rows columns) p)) p s m r p′ s′ m′ (deductionTested rows columns p (length s) (length m)) call accepted (exactly .1 k),
@@ -133,19 +137,19 @@ module _ (rows columns : ℕ) (p : List ℕ) where
 
 module _ (rows columns : ℕ) (p s m : List ℕ) (r : DeductionAnswer) (p′ s′ m′ : List ℕ) where
   -- solve_direct
-  pub direct-refuses-exactly : seen r p′ s′ m′ ≡ solveDirect rows columns p s m → DirectRefuses rows columns p s m r
+  pub direct-refuses-exactly : seen r p′ s′ m′ ≡ solveDirect rows columns p s m → DirectRefuses rows columns p s m (testedNumber (r .tested))
   unfolding solveDirect
   direct-refuses-exactly call =
       call-refuses direct (isContradictoryAt (neighbours rows columns) p ≡ true) rows columns p s m r p′ s′ m′ call (direct-meets rows columns p)
 
   -- solve_minus
-  pub minus-refuses-only : seen r p′ s′ m′ ≡ solveMinus rows columns p s m → MinusRefuses rows columns p s m r
+  pub minus-refuses-only : seen r p′ s′ m′ ≡ solveMinus rows columns p s m → MinusRefuses rows columns p s m (testedNumber (r .tested))
   unfolding solveMinus
   minus-refuses-only call =
       call-refuses-only subtraction (NoPlacing (neighbours rows columns) p) rows columns p s m r p′ s′ m′ call (minus-meets rows columns p)
 
   -- solve_enumerate
-  pub enumerate-refuses-exactly : seen r p′ s′ m′ ≡ solveEnumerate rows columns p s m → EnumerateRefuses rows columns p s m r
+  pub enumerate-refuses-exactly : seen r p′ s′ m′ ≡ solveEnumerate rows columns p s m → EnumerateRefuses rows columns p s m (testedNumber (r .tested))
   unfolding solveEnumerate
   enumerate-refuses-exactly call =
       call-refuses enumerated (NoPlacing (neighbours rows columns) p) rows columns p s m r p′ s′ m′ call

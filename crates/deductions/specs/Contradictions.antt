@@ -1,6 +1,7 @@
 -- Refusal 6 of the calls in words of the position: no block, no group and no order (document 01, "The three rules"). `near` gives the neighbours of a cell;
--- p is the position that was lent. What the direct rule finds at a position stands in AtPosition of the crate rules. Of subtraction it is said only one
--- way: a block that it empties is dropped, its remainders unread, so that blocks would have to be named. Assumes nothing.
+-- p, s and m are the position and the lists as they were lent, and `number` is 0 or the refusal's number. What the direct rule finds at a position stands
+-- in AtPosition of the crate rules. Of subtraction it is said only one way: a block that it empties is dropped, its remainders unread, so that blocks
+-- would have to be named. Assumes nothing.
 use mathlib.Core.Path.{_≡_}
 use mathlib.Core.Logic.{_↔_}
 use mathlib.Core.Bool.{Bool, true}
@@ -9,12 +10,10 @@ use Prim.Native.Nat.{ℕ}
 use lib.ListN.{length}
 use Rattle.grid.specs.Cells.{shows}
 use Rattle.grid.specs.Window.{neighbours}
-use Rattle.refusals.specs.declared.Refusal.the-variants.{Contradiction}
-use Rattle.refusals.specs.declared.Tested.the-variants.{Accepted, Refused}
+use Rattle.refusals.specs.declared.Tested.the-variants.{Accepted}
 use Rattle.refusals.specs.Tests.{deductionTested}
 use Rattle.sources.specs.Sources.{isSource}
 use Rattle.rules.specs.AtPosition.{minesWith, isContradictoryAt}
-use Rattle.deductions.specs.declared.answer.DeductionAnswer.{DeductionAnswer}
 
 -- mines placed on the closed cells as f says give each open cell with a closed neighbour its number
 abbrev pub Placing : (ℕ → List ℕ) → List ℕ → (ℕ → Bool) → Type 0
@@ -29,13 +28,13 @@ abbrev pub TestsPass : ℕ → ℕ → List ℕ → List ℕ → List ℕ → Ty
 TestsPass rows columns p s m = deductionTested rows columns p (length s) (length m) ≡ Accepted
 
 -- solve_direct refuses with 6 exactly where the tests pass and an open cell with a closed neighbour shows fewer than the mines known and found beside it
-abbrev pub DirectRefuses : ℕ → ℕ → List ℕ → List ℕ → List ℕ → DeductionAnswer → Type 0
-DirectRefuses rows columns p s m r = (r .tested ≡ Refused Contradiction) ↔ (TestsPass rows columns p s m × (isContradictoryAt (neighbours rows columns) p ≡ true))
+abbrev pub DirectRefuses : ℕ → ℕ → List ℕ → List ℕ → List ℕ → ℕ → Type 0
+DirectRefuses rows columns p s m number = (number ≡ 6) ↔ (TestsPass rows columns p s m × (isContradictoryAt (neighbours rows columns) p ≡ true))
 
 -- solve_minus only where the tests pass and no mines on the closed cells give each open cell with a closed neighbour its number
-abbrev pub MinusRefuses : ℕ → ℕ → List ℕ → List ℕ → List ℕ → DeductionAnswer → Type 0
-MinusRefuses rows columns p s m r = r .tested ≡ Refused Contradiction → TestsPass rows columns p s m × NoPlacing (neighbours rows columns) p
+abbrev pub MinusRefuses : ℕ → ℕ → List ℕ → List ℕ → List ℕ → ℕ → Type 0
+MinusRefuses rows columns p s m number = number ≡ 6 → TestsPass rows columns p s m × NoPlacing (neighbours rows columns) p
 
 -- solve_enumerate exactly there
-abbrev pub EnumerateRefuses : ℕ → ℕ → List ℕ → List ℕ → List ℕ → DeductionAnswer → Type 0
-EnumerateRefuses rows columns p s m r = (r .tested ≡ Refused Contradiction) ↔ (TestsPass rows columns p s m × NoPlacing (neighbours rows columns) p)
+abbrev pub EnumerateRefuses : ℕ → ℕ → List ℕ → List ℕ → List ℕ → ℕ → Type 0
+EnumerateRefuses rows columns p s m number = (number ≡ 6) ↔ (TestsPass rows columns p s m × NoPlacing (neighbours rows columns) p)
