@@ -25,7 +25,7 @@ same-length-4 c = search needs
 returns : tie.Need-returns
 returns c =
     let put = c .before .before in
-    deduction-returned _ (put .before .before .before .before .before .before .before .before .solve-enumerate .ensures) (put .put-deduction .ensures)
+    deduction-returned _ (put .before .before .before .before .before .before .before .before .solve-enumerate .ensures .0) (put .put-deduction .ensures)
 
 pub lihvompa-enumerate-spec : {M : Type 1} → statement M
 lihvompa-enumerate-spec =
