@@ -1,5 +1,6 @@
 // The three rules as calls on a position: each tests its input, reads a fresh frontier, hands out two lists of cells and marks them. specs/Answers.antt says
-// what a caller sees, and specs/Calls.antt what that means: the first clause of each call gives every byte, the others what demand 2 asks of it.
+// what a caller sees, specs/Calls.antt what that means and specs/Contradictions.antt where it is refusal 6: the first clause of each call gives every byte,
+// the others what demand 2 asks of it.
 pub mod answer;
 
 use answer::DeductionAnswer;
@@ -22,6 +23,7 @@ ghost use Rattle.refusals.specs.Tests.{deductionTested};
 ghost use Rattle.fitting.specs.Layouts.{Fits};
 ghost use Rattle.deductions.specs.Answers.{seen, solveDirect, solveMinus, solveEnumerate};
 ghost use Rattle.deductions.specs.Calls.{SoundCall, CompleteCall};
+ghost use Rattle.deductions.specs.Contradictions.{DirectRefuses, MinusRefuses, EnumerateRefuses};
 
 // solve_direct on a position: refusals 1 to 3, then 6.
 pub fn solve_direct(
@@ -34,6 +36,7 @@ pub fn solve_direct(
     ensures { λ r. ⌜ seen r (now (position .exit)) (now (safe .exit)) (now (mines .exit)) ≡ solveDirect rows columns (now (position .entry)) (now (safe .entry)) (now (mines .entry)) ⌝ }
     ensures sound { λ r. ⌜ SoundCall rows columns (now (position .entry)) (now (safe .entry)) (now (mines .entry))
         (testedNumber (r .tested)) (r .safe) (r .mines) (now (position .exit)) (now (safe .exit)) (now (mines .exit)) ⌝ }
+    ensures six { λ r. ⌜ DirectRefuses rows columns (now (position .entry)) (now (safe .entry)) (now (mines .entry)) (testedNumber (r .tested)) ⌝ }
 {
     match test_deduction(rows, columns, position, safe.len(), mines.len()) {
         Tested::Accepted => {
@@ -55,6 +58,7 @@ pub fn solve_minus(
     ensures { λ r. ⌜ seen r (now (position .exit)) (now (safe .exit)) (now (mines .exit)) ≡ solveMinus rows columns (now (position .entry)) (now (safe .entry)) (now (mines .entry)) ⌝ }
     ensures sound { λ r. ⌜ SoundCall rows columns (now (position .entry)) (now (safe .entry)) (now (mines .entry))
         (testedNumber (r .tested)) (r .safe) (r .mines) (now (position .exit)) (now (safe .exit)) (now (mines .exit)) ⌝ }
+    ensures six { λ r. ⌜ MinusRefuses rows columns (now (position .entry)) (now (safe .entry)) (now (mines .entry)) (testedNumber (r .tested)) ⌝ }
 {
     match test_deduction(rows, columns, position, safe.len(), mines.len()) {
         Tested::Accepted => {
@@ -79,6 +83,7 @@ pub fn solve_enumerate(
     ensures complete { λ r. ⌜ (deductionTested rows columns (now (position .entry)) (length (now (safe .entry))) (length (now (mines .entry))) ≡ Accepted
         → (layout : List Bool) → Fits (neighbours rows columns) (now (position .entry)) layout
         → CompleteCall (neighbours rows columns) (now (position .entry)) (testedNumber (r .tested)) (r .safe) (r .mines) (now (safe .exit)) (now (mines .exit))) ⌝ }
+    ensures six { λ r. ⌜ EnumerateRefuses rows columns (now (position .entry)) (now (safe .entry)) (now (mines .entry)) (testedNumber (r .tested)) ⌝ }
 {
     match test_deduction(rows, columns, position, safe.len(), mines.len()) {
         Tested::Accepted => {

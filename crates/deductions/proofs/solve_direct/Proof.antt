@@ -1,5 +1,5 @@
 -- `solve_direct` meets its contract: a refusal by the tests ends the call; else the frontier is read, the direct rule runs on it and its answer is handed to the
--- caller; the other clause is the law of the call, from this equation. Rests on Deductions, SoundCalls and the contracts of the calls. Assumes nothing.
+-- caller; the other clauses are laws of the call, from this equation. Rests on Deductions, SoundCalls, Contradictions and the contracts of the calls. Assumes nothing.
 use mathlib.Core.Path.{_≡_, sym, _∙_}
 use borrow.Author.Needs.{needs}
 use lib.ListN.{length}
@@ -12,6 +12,7 @@ use Rattle.rules.proofs.FrontierReady.{read-ready}
 use Rattle.deductions.specs.Answers.{solveDirect}
 use Rattle.deductions.proofs.Deductions.{direct-sound-on, tests-refuse, rule-held, rule-seen}
 use Rattle.deductions.proofs.SoundCalls.{direct-call-sound}
+use Rattle.deductions.proofs.Contradictions.{direct-refuses-exactly}
 use Rattle.deductions.proofs.solve_direct.Statement.{statement}
 use Rattle.deductions.proofs.solve_direct.Tie as tie
 
@@ -74,7 +75,7 @@ returns c =
     let is = gave .give-answer .ensures
     ∙ rule-seen direct (a .rows) (a .columns) (a .position .now) (a .safe .now) (a .mines .now) (tests accepts) (read .read-blocks .result) (read .read-blocks .ensures)
     (ran .direct-rule .result) (ran .direct-rule .ensures .0) (ran .direct-rule .ensures .1) in
-    (is, direct-call-sound (a .rows) (a .columns) (a .position .now) (a .safe .now) (a .mines .now) _ _ _ _ is)
+    (is, (direct-call-sound (a .rows) (a .columns) (a .position .now) (a .safe .now) (a .mines .now) _ _ _ _ is, direct-refuses-exactly (a .rows) (a .columns) (a .position .now) (a .safe .now) (a .mines .now) _ _ _ _ is))
 
 same-length-4 : tie.Need-same-length-4
 same-length-4 c = search needs
@@ -87,7 +88,7 @@ returns-2 c =
     let a = tested .before .before .before .before .before .args in
     let is = tests-refuse direct (a .rows) (a .columns) (a .position .now) (a .safe .now) (a .mines .now) (told .0 .0) (sym (tested .test-deduction .ensures) ∙ told .1)
     (c .refused .result) (c .refused .ensures) in
-    (is, direct-call-sound (a .rows) (a .columns) (a .position .now) (a .safe .now) (a .mines .now) _ _ _ _ is)
+    (is, (direct-call-sound (a .rows) (a .columns) (a .position .now) (a .safe .now) (a .mines .now) _ _ _ _ is, direct-refuses-exactly (a .rows) (a .columns) (a .position .now) (a .safe .now) (a .mines .now) _ _ _ _ is))
 
 pub solve-direct-spec : {M : Type 1} → statement M
 solve-direct-spec =
