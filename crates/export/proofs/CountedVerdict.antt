@@ -1,7 +1,7 @@
 -- Demand 3 of the verdict as C and Rust see it: where there is room for two counts, it holds of them and of the picture, as is_solvable's contract has it of the
 -- answer. Assumes nothing.
 use mathlib.Core.Path.{_≡_, refl}
-use mathlib.Core.Bool.{Bool, true, false}
+use mathlib.Core.Bool.{Bool}
 use mathlib.Core.List.{List, [], _∷_}
 use Prim.Native.Nat.{ℕ, _<_}
 use native.Mathlib.Omega.{arith}
@@ -28,13 +28,9 @@ module _ (a b c d : ℕ) where
   second-count (x ∷ []) h = absurd (omega arith)
   second-count (x ∷ y ∷ l) h = refl
 
-bit-is-one : (v : Bool) → eqb (bit v) 1 ≡ v
-bit-is-one true = refl
-bit-is-one false = refl
-
 -- demand 3 of the first two counts
 pub counted-demand-3 : {near : ℕ → List ℕ} {b shown : List ℕ} (counts : List ℕ) {after : List ℕ} {s n grade rounds : ℕ} {v : Bool} {answer : Verdict}
     → answer ≡ Judged v n grade rounds → MeetsDemand3 near b s answer shown → after ≡ laid (bit v ∷ n ∷ grade ∷ rounds ∷ []) counts → 1 < length counts
     → Demand3 near b s (eqb (getD after 0 0) 1) (getD after 1 0) shown
 counted-demand-3 counts {n = n} {grade = grade} {rounds = rounds} {v = v} which meets is room =
-    rw (is, first-count (bit v) n grade rounds counts room, second-count (bit v) n grade rounds counts room, bit-is-one v) (rw which at meets)
+    rw (is, first-count (bit v) n grade rounds counts room, second-count (bit v) n grade rounds counts room) (rw which at meets .1)
