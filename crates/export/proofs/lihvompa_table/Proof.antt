@@ -31,7 +31,7 @@ returns : tie.Need-returns
 returns c =
     let told = c .before .before in
     let asked = told .before .before .before .before in
-    table-returned _ (asked .cal-all-solution .ensures) (told .answer .given .1) (values-returned (c .refusal-number .ensures) (none-laid _))
+    table-returned _ (asked .cal-all-solution .ensures .0) (told .answer .given .1) (values-returned (c .refusal-number .ensures) (none-laid _))
 
 same-length-2 : tie.Need-same-length-2
 same-length-2 c = search needs
@@ -45,7 +45,7 @@ returns-2 c =
     let first = second .before .before .before .before in
     let told = first .before .before .before in
     let asked = told .before .before .before .before in
-    table-returned _ (asked .cal-all-solution .ensures) (told .answer2 .given .1)
+    table-returned _ (asked .cal-all-solution .ensures .0) (told .answer2 .given .1)
     (values-returned refl (two-laid _ _ _ (first .put-count .ensures) (second .put-count2 .ensures)))
 
 pub lihvompa-table-spec : {M : Type 1} → statement M
