@@ -3,10 +3,10 @@
 use mathlib.Core.Bool.{cond}
 use mathlib.Core.List.{List, [], _∷_, _++_}
 use Prim.Native.Nat.{ℕ}
+use lib.Dec.{eqb}
 use lib.ListN.{take, replicate}
 use Rattle.verdict.specs.declared.Verdict.{Verdict}
-use Rattle.verdict.specs.declared.Verdict.the-variants.{Refused, Judged}
-use Rattle.verdict.specs.Verdict.{VerdictSeen, isSolvable}
+use Rattle.verdict.specs.Verdict.{verdictNumber, VerdictSeen, isSolvable}
 use Rattle.show.specs.Cells.{cellsText}
 use Rattle.lines.specs.declared.Line.{Line}
 use Rattle.lines.specs.declared.StartLine.{StartLine}
@@ -15,8 +15,7 @@ use Rattle.records.specs.Answers.{verdictText}
 
 -- ` picture 1 10` behind a verdict, and nothing behind a refusal
 abbrev pub pictureText : Verdict → List ℕ → List ℕ
-pictureText (Refused r) shown = []
-pictureText (Judged solvable opened grade rounds) shown = (32 ∷ 112 ∷ 105 ∷ 99 ∷ 116 ∷ 117 ∷ 114 ∷ 101 ∷ []) ++ cellsText shown
+pictureText v shown = cond (eqb (verdictNumber v) 0) ((32 ∷ 112 ∷ 105 ∷ 99 ∷ 116 ∷ 117 ∷ 114 ∷ 101 ∷ []) ++ cellsText shown) []
 
 -- what the caller sees, as text
 abbrev pub verdictSeenText : VerdictSeen → List ℕ

@@ -5,9 +5,9 @@ use mathlib.Core.List.{List, [], _∷_, _++_}
 use Prim.Native.Nat.{ℕ, _+_, _-_, _*_}
 use lib.Dec.{eqb}
 use lib.ListN.{length, replicate}
-use Rattle.lists.specs.Lists.{range, every, same}
+use Rattle.lists.specs.Lists.{range, every, bit, same}
 use Rattle.grid.specs.Window.{neighbours}
-use Rattle.refusals.specs.Refusals.{refusalNumber, testedNumber}
+use Rattle.refusals.specs.Refusals.{testedNumber}
 use Rattle.refusals.specs.Tests.{boardTested, positionTested}
 use Rattle.blocks.specs.Blocks.{BlockEquation, Block}
 use Rattle.frontier.specs.Frontier.{frontier, insideCells, knownMines}
@@ -16,13 +16,9 @@ use Rattle.rules.specs.Direct.{direct}
 use Rattle.subtraction.specs.Minus.{subtraction}
 use Rattle.solutions.specs.Enumeration.{enumerated}
 use Rattle.deductions.specs.Answers.{Seen, deduction}
-use Rattle.tables.specs.declared.TableAnswer.{TableAnswer}
-use Rattle.tables.specs.declared.TableAnswer.the-variants as table-answer
-use Rattle.tables.specs.Tables.{calAllSolution}
-use Rattle.verdict.specs.declared.Verdict.{Verdict}
-use Rattle.verdict.specs.declared.Verdict.the-variants as verdict
-use Rattle.verdict.specs.Verdict.{isSolvable}
-use Rattle.patterns.specs.Answer.{unsolvableStructure, answerRefusal, answerFound}
+use Rattle.tables.specs.Tables.{tableNumber, tableValues, TableSeen, calAllSolution}
+use Rattle.verdict.specs.Verdict.{verdictNumber, verdictValues, VerdictSeen, isSolvable}
+use Rattle.patterns.specs.Answer.{unsolvableStructure, patternNumber, patternValues}
 use Rattle.fitting.specs.Solver.{ask, solved}
 use Rattle.fitting.specs.Demand.{opened}
 use Rattle.fitting.specs.Passes.{allOpen}
@@ -39,14 +35,14 @@ pub data Case : Type 0 where
   deduced : (rule : List Block → Found) → (rows columns : ℕ) → List ℕ → (safe mines after : List ℕ) → List Block → Case
   -- or refusal 6, which leaves the position
   contradictory : (rule : List Block → Found) → (rows columns : ℕ) → List ℕ → Case
-  -- the table of a block of a position, lent these bytes: the number of the refusal, or 0, the counts of solutions and groups, and the bytes after
-  tabulated : (rows columns : ℕ) → List ℕ → (block : ℕ) → (lent : List ℕ) → (refusal solutions groups : ℕ) → (after : List ℕ) → Case
+  -- the table of a block of a position, lent these bytes: the answer's number and its values, the counts of solutions and groups, and the bytes after
+  tabulated : (rows columns : ℕ) → List ℕ → (block : ℕ) → (lent : List ℕ) → (number : ℕ) → (values after : List ℕ) → Case
   -- the verdict of a board from a start, lent a picture of zeros: yes or no, opened cells, grade and rounds, and the picture after
   judged : (rows columns row column : ℕ) → List ℕ → (answer : Bool) → (opened grade rounds : ℕ) → (after : List ℕ) → Case
   -- or the number of the refusal, which leaves the picture
   unjudged : (rows columns row column : ℕ) → List ℕ → (refusal : ℕ) → Case
-  -- the pattern call on a board: the number of the refusal, or 0, and whether a pattern is found
-  pattern : (rows columns : ℕ) → List ℕ → (refusal : ℕ) → (found : Bool) → Case
+  -- the pattern call on a board: the answer's number and its value, 1 where a pattern is found
+  pattern : (rows columns : ℕ) → List ℕ → (number : ℕ) → (values : List ℕ) → Case
   -- the solver of demand 3 on a board, from the cell s: its position when it is done, its open cells, and whether they are all the safe ones
   solver : (rows columns s : ℕ) → List ℕ → List ℕ → ℕ → Bool → Case
 
@@ -87,20 +83,13 @@ called rule rows columns p = deduction rule rows columns p (replicate (length p)
 abbrev listHolds : List ℕ → ℕ → List ℕ → Bool
 listHolds slice n cells = eqb n (length cells) && same slice (cells ++ replicate (length slice - n) 0)
 
--- an answer of the table call has the number of the refusal, or 0, and the counts
-abbrev sameTable : TableAnswer → ℕ → ℕ → ℕ → Bool
-sameTable (table-answer.Refused r) n solutions groups = eqb (refusalNumber r) n
-sameTable (table-answer.Listed s g) n solutions groups = eqb n 0 && (eqb s solutions && eqb g groups)
+-- the table call's answer has this number and these values, and leaves these bytes
+abbrev sameTable : TableSeen → ℕ → List ℕ → List ℕ → Bool
+sameTable w n values after = eqb (tableNumber (w .answer)) n && (same (tableValues (w .answer)) values && same (w .table) after)
 
--- a verdict has these values
-abbrev sameVerdict : Verdict → Bool → ℕ → ℕ → ℕ → Bool
-sameVerdict (verdict.Refused r) answer n grade rounds = false
-sameVerdict (verdict.Judged a m g k) answer n grade rounds = Bool·beq a answer && (eqb m n && (eqb g grade && eqb k rounds))
-
--- a verdict is a refusal of this number
-abbrev refusedBy : Verdict → ℕ → Bool
-refusedBy (verdict.Refused r) n = eqb (refusalNumber r) n
-refusedBy (verdict.Judged a m g k) n = false
+-- the verdict has this number and these values, and leaves this picture
+abbrev sameVerdict : VerdictSeen → ℕ → List ℕ → List ℕ → Bool
+sameVerdict w n values after = eqb (verdictNumber (w .answer)) n && (same (verdictValues (w .answer)) values && same (w .shown) after)
 
 -- the line holds
 unfoldable pub holds : Case → Bool
@@ -119,16 +108,12 @@ holds (contradictory rule rows columns p) =
     && (same (called rule rows columns p .position) p
     && (listHolds (called rule rows columns p .safe) (called rule rows columns p .answer .safe) []
     && listHolds (called rule rows columns p .mines) (called rule rows columns p .answer .mines) []))
-holds (tabulated rows columns p block lent n solutions groups after) =
-    sameTable (calAllSolution rows columns p block lent .answer) n solutions groups && same (calAllSolution rows columns p block lent .table) after
+holds (tabulated rows columns p block lent n values after) = sameTable (calAllSolution rows columns p block lent) n values after
 holds (judged rows columns row column b answer n grade rounds after) =
-    sameVerdict (isSolvable rows columns row column b (replicate (length b) 0) .answer) answer n grade rounds
-    && same (isSolvable rows columns row column b (replicate (length b) 0) .shown) after
-holds (unjudged rows columns row column b n) =
-    refusedBy (isSolvable rows columns row column b (replicate (length b) 0) .answer) n
-    && same (isSolvable rows columns row column b (replicate (length b) 0) .shown) (replicate (length b) 0)
-holds (pattern rows columns b n found) =
-    eqb (answerRefusal (unsolvableStructure rows columns b)) n && Bool·beq (answerFound (unsolvableStructure rows columns b)) found
+    sameVerdict (isSolvable rows columns row column b (replicate (length b) 0)) 0 (bit answer ∷ n ∷ grade ∷ rounds ∷ []) after
+holds (unjudged rows columns row column b n) = sameVerdict (isSolvable rows columns row column b (replicate (length b) 0)) n [] (replicate (length b) 0)
+holds (pattern rows columns b n values) =
+    eqb (patternNumber (unsolvableStructure rows columns b)) n && same (patternValues (unsolvableStructure rows columns b)) values
 holds (solver rows columns s b p n all) = endsWith rows columns s b p && (eqb (opened p) n && Bool·beq (allOpen b p) all)
 
 unfoldable pub table : List Case
@@ -148,20 +133,20 @@ table =
     ∷ contradictory direct 1 3 (11 ∷ 0 ∷ 10 ∷ [])
     ∷ contradictory subtraction 1 3 (11 ∷ 0 ∷ 10 ∷ [])
     ∷ contradictory enumerated 1 3 (11 ∷ 0 ∷ 10 ∷ [])
-    ∷ tabulated 1 3 (11 ∷ 0 ∷ 10 ∷ []) 0 (7 ∷ []) 0 0 1 (7 ∷ [])
+    ∷ tabulated 1 3 (11 ∷ 0 ∷ 10 ∷ []) 0 (7 ∷ []) 0 (0 ∷ 1 ∷ []) (7 ∷ [])
     -- 4. `10 1 10`: one equation over both cells; no rule finds a cell
     ∷ frontier-read 1 3 (10 ∷ 1 ∷ 10 ∷ []) (block (0 ∷ 2 ∷ []) (equation 1 (0 ∷ 2 ∷ []) ∷ []) ∷ []) 0 0
     ∷ deduced direct 1 3 (10 ∷ 1 ∷ 10 ∷ []) [] [] (10 ∷ 1 ∷ 10 ∷ []) (block (2 ∷ 0 ∷ []) (equation 1 (2 ∷ 0 ∷ []) ∷ []) ∷ [])
     ∷ deduced subtraction 1 3 (10 ∷ 1 ∷ 10 ∷ []) [] [] (10 ∷ 1 ∷ 10 ∷ []) (block (0 ∷ 2 ∷ []) (equation 1 (0 ∷ 2 ∷ []) ∷ []) ∷ [])
     ∷ deduced enumerated 1 3 (10 ∷ 1 ∷ 10 ∷ []) [] [] (10 ∷ 1 ∷ 10 ∷ []) []
     -- the table is one group, one row `1`; bytes past it stay, and there is no block 1
-    ∷ tabulated 1 3 (10 ∷ 1 ∷ 10 ∷ []) 0 (7 ∷ 7 ∷ []) 0 1 1 (1 ∷ 7 ∷ [])
-    ∷ tabulated 1 3 (10 ∷ 1 ∷ 10 ∷ []) 1 (7 ∷ 7 ∷ []) 8 0 0 (7 ∷ 7 ∷ [])
+    ∷ tabulated 1 3 (10 ∷ 1 ∷ 10 ∷ []) 0 (7 ∷ 7 ∷ []) 0 (1 ∷ 1 ∷ []) (1 ∷ 7 ∷ [])
+    ∷ tabulated 1 3 (10 ∷ 1 ∷ 10 ∷ []) 1 (7 ∷ 7 ∷ []) 8 [] (7 ∷ 7 ∷ [])
     -- 5. `10 1 10 1 10`: two equations that share a cell; table `0 1 0`, `1 0 1`
     ∷ frontier-read 1 5 (10 ∷ 1 ∷ 10 ∷ 1 ∷ 10 ∷ [])
     (block (0 ∷ 2 ∷ 4 ∷ []) (equation 1 (0 ∷ 2 ∷ []) ∷ equation 1 (2 ∷ 4 ∷ []) ∷ []) ∷ []) 0 0
-    ∷ tabulated 1 5 (10 ∷ 1 ∷ 10 ∷ 1 ∷ 10 ∷ []) 0 (replicate 6 7) 0 2 3 (0 ∷ 1 ∷ 0 ∷ 1 ∷ 0 ∷ 1 ∷ [])
-    ∷ tabulated 1 5 (10 ∷ 1 ∷ 10 ∷ 1 ∷ 10 ∷ []) 0 (replicate 5 7) 9 0 0 (replicate 5 7)
+    ∷ tabulated 1 5 (10 ∷ 1 ∷ 10 ∷ 1 ∷ 10 ∷ []) 0 (replicate 6 7) 0 (2 ∷ 3 ∷ []) (0 ∷ 1 ∷ 0 ∷ 1 ∷ 0 ∷ 1 ∷ [])
+    ∷ tabulated 1 5 (10 ∷ 1 ∷ 10 ∷ 1 ∷ 10 ∷ []) 0 (replicate 5 7) 9 [] (replicate 5 7)
     -- 6. `10 10 10 / 1 1 1`: three equations, the others found from the last to the second
     ∷ frontier-read 2 3 (10 ∷ 10 ∷ 10 ∷ 1 ∷ 1 ∷ 1 ∷ [])
     (block (0 ∷ 1 ∷ 2 ∷ []) (equation 1 (0 ∷ 1 ∷ []) ∷ equation 1 (1 ∷ 2 ∷ []) ∷ equation 1 (0 ∷ 1 ∷ 2 ∷ []) ∷ []) ∷ []) 0 0
@@ -171,8 +156,8 @@ table =
     ∷ deduced subtraction 2 3 (10 ∷ 10 ∷ 10 ∷ 1 ∷ 1 ∷ 1 ∷ []) (0 ∷ 2 ∷ []) (1 ∷ []) (12 ∷ 11 ∷ 12 ∷ 1 ∷ 1 ∷ 1 ∷ []) []
     ∷ deduced enumerated 2 3 (10 ∷ 10 ∷ 10 ∷ 1 ∷ 1 ∷ 1 ∷ []) (0 ∷ 2 ∷ []) (1 ∷ []) (12 ∷ 11 ∷ 12 ∷ 1 ∷ 1 ∷ 1 ∷ []) []
     -- 7. its table is `0 1 0`; 2 bytes lent: refusal 9; 3 accepted
-    ∷ tabulated 2 3 (10 ∷ 10 ∷ 10 ∷ 1 ∷ 1 ∷ 1 ∷ []) 0 (7 ∷ 7 ∷ []) 9 0 0 (7 ∷ 7 ∷ [])
-    ∷ tabulated 2 3 (10 ∷ 10 ∷ 10 ∷ 1 ∷ 1 ∷ 1 ∷ []) 0 (7 ∷ 7 ∷ 7 ∷ []) 0 1 3 (0 ∷ 1 ∷ 0 ∷ [])
+    ∷ tabulated 2 3 (10 ∷ 10 ∷ 10 ∷ 1 ∷ 1 ∷ 1 ∷ []) 0 (7 ∷ 7 ∷ []) 9 [] (7 ∷ 7 ∷ [])
+    ∷ tabulated 2 3 (10 ∷ 10 ∷ 10 ∷ 1 ∷ 1 ∷ 1 ∷ []) 0 (7 ∷ 7 ∷ 7 ∷ []) 0 (1 ∷ 3 ∷ []) (0 ∷ 1 ∷ 0 ∷ [])
     -- 8. board `0`, start 0,0: yes, 1 opened; the solver opens it too
     ∷ judged 1 1 0 0 (0 ∷ []) true 1 0 0 (0 ∷ [])
     ∷ solver 1 1 0 (0 ∷ []) (0 ∷ []) 1 true
@@ -180,8 +165,8 @@ table =
     ∷ judged 3 3 0 0 (3 ∷ replicate 8 255) true 1 0 0 (3 ∷ replicate 8 10)
     ∷ solver 3 3 0 (3 ∷ replicate 8 255) (3 ∷ replicate 8 10) 1 true
     -- pattern found; below 3 rows it is refusal 1
-    ∷ pattern 3 3 (3 ∷ replicate 8 255) 0 true
-    ∷ pattern 2 3 (3 ∷ replicate 5 255) 1 false
+    ∷ pattern 3 3 (3 ∷ replicate 8 255) 0 (1 ∷ [])
+    ∷ pattern 2 3 (3 ∷ replicate 5 255) 1 []
     -- 10. `1 255 1 / 1 1 1`, start 1,0: no, 1 opened
     ∷ judged 2 3 1 0 (1 ∷ 255 ∷ 1 ∷ 1 ∷ 1 ∷ 1 ∷ []) false 1 0 0 (10 ∷ 10 ∷ 10 ∷ 1 ∷ 10 ∷ 10 ∷ [])
     ∷ solver 2 3 3 (1 ∷ 255 ∷ 1 ∷ 1 ∷ 1 ∷ 1 ∷ []) (10 ∷ 10 ∷ 10 ∷ 1 ∷ 10 ∷ 10 ∷ []) 1 false

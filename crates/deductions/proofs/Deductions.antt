@@ -24,7 +24,8 @@ use Rattle.rules.specs.declared.answer.RuleAnswer.{RuleAnswer}
 use Rattle.rules.proofs.Soundness.{SoundAt, listed-few, direct-sound-at, listed-below}
 use Rattle.subtraction.specs.Minus.{subtraction}
 use Rattle.subtraction.proofs.Soundness.{subtraction-sound-at}
-use Rattle.deductions.specs.Answers.{Held, refused, afterFound, deduction}
+use Rattle.deductions.specs.Answers.{Held, seen, refusedAnswer, afterFound, deduction}
+use Rattle.deductions.specs.declared.answer.DeductionAnswer.{DeductionAnswer}
 use Rattle.deductions.proofs.Handed.{same-seen, struct-found, struct-held}
 
 -- ---- the two rules on a board
@@ -41,9 +42,10 @@ module _ (rows columns : ℕ) (p : List ℕ) (some : 1 ≤ columns) where
 -- ---- a call
 
 module _ (rule : List Block → Found) (rows columns : ℕ) (p s m : List ℕ) where
-  -- the tests refuse
-  pub tests-refuse : (x : Refusal) → deductionTested rows columns p (length s) (length m) ≡ Refused x → refused x p s m ≡ deduction rule rows columns p s m
-  tests-refuse x h = rw h
+  -- the tests refuse, and the answer is their refusal
+  pub tests-refuse : (x : Refusal) → deductionTested rows columns p (length s) (length m) ≡ Refused x → (r : DeductionAnswer) → r ≡ refusedAnswer x
+      → seen r p s m ≡ deduction rule rows columns p s m
+  tests-refuse x h r is = rw (is, h)
 
   -- the tests accept
   tests-accept : deductionTested rows columns p (length s) (length m) ≡ Accepted

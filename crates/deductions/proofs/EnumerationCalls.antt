@@ -1,23 +1,22 @@
--- What a caller of solve_enumerate has, from what the call ensures alone. It is sound, as the calls of the two other rules are: what it lists is so in every layout that
--- fits the position, and it marks just that. And it is complete: where the tests pass and some layout fits, it is accepted, and each closed cell that touches an
--- open one and is the same in every layout that fits stands on the right list. Rests on SoundCalls and on Completeness of the crate solutions. Assumes nothing.
+-- What specs/Calls.antt says of solve_enumerate, from the equation that the call ensures. It is sound, as the calls of the two other rules are. And it is complete, since
+-- enumeration is, and each cell of its lists stands at the front of the lent slices. Rests on SoundCalls and on Completeness of the crate solutions. Assumes nothing.
 use mathlib.Core.Path.{_≡_, ap, _∙_}
-use mathlib.Core.Bool.{Bool, true, false}
+use mathlib.Core.Bool.{Bool, true}
 use mathlib.Core.List.{List}
-use Prim.Native.Nat.{ℕ, _≤_, _<_}
+use Prim.Native.Nat.{ℕ, _≤_}
 use native.Mathlib.Omega.{arith}
-use lib.ListN.{length, getD}
+use lib.ListN.{length}
 use lib.Seq.{sets}
 use Rattle.lists.specs.Lists.{has}
 use Rattle.lists.proofs.ReadBack.{front-read}
 use Rattle.lists.proofs.Unions.{has-mem}
-use Rattle.grid.specs.Cells.{shows}
 use Rattle.grid.specs.Window.{neighbours}
 use Rattle.grid.proofs.Neighbours.{neighbours-nodup}
 use Rattle.refusals.specs.declared.Tested.the-variants.{Accepted}
+use Rattle.refusals.specs.Refusals.{testedNumber}
 use Rattle.refusals.specs.Tests.{deductionTested}
 use Rattle.refusals.proofs.Accepted.{AcceptedDeduction, accepted-deduction}
-use Rattle.fitting.specs.Layouts.{Fits, Forced}
+use Rattle.fitting.specs.Layouts.{Fits}
 use Rattle.frontier.specs.Frontier.{frontier}
 use Rattle.rules.specs.Found.{Found}
 use Rattle.rules.proofs.Soundness.{SoundAt, listed-few}
@@ -25,9 +24,10 @@ use Rattle.solutions.specs.Enumeration.{enumerated}
 use Rattle.solutions.proofs.Completeness.{CompleteAt, enumeration-sound-at, enumeration-complete-at}
 use Rattle.solutions.proofs.BoardRules.{neighbours-few-everywhere}
 use Rattle.deductions.specs.Answers.{Seen, seen, afterFound, solveEnumerate}
+use Rattle.deductions.specs.Calls.{SoundCall, AmongFirst, CompleteCall}
 use Rattle.deductions.specs.declared.answer.DeductionAnswer.{DeductionAnswer}
 use Rattle.deductions.proofs.Handed.{after-lists}
-use Rattle.deductions.proofs.SoundCalls.{SoundCall, call-sound}
+use Rattle.deductions.proofs.SoundCalls.{call-sound}
 use Rattle.lists.proofs.PlacesAndRanges.{mem-place}
 
 -- ---- enumeration on a board
@@ -42,18 +42,6 @@ module _ (rows columns : ℕ) (p : List ℕ) where
       → CompleteAt (neighbours rows columns) p (enumerated (frontier (neighbours rows columns) p))
   enumeration-complete-on = enumeration-complete-at (neighbours rows columns) (neighbours-nodup rows columns) (neighbours-few-everywhere rows columns) p
 
--- ---- what a complete call tells: p is the position that was lent, r the answer, s′ and m′ are the lent lists after the call
-
--- a cell is one of the first n entries
-abbrev pub AmongFirst : ℕ → List ℕ → ℕ → Type 0
-AmongFirst n l c = (i : ℕ) × (i < n) × (getD l i 0 ≡ c)
-
--- it is accepted, and counts in its lists each closed cell beside an open one that is free, or a mine, in every layout that fits
-pub record CompleteCall (near : ℕ → List ℕ) (p : List ℕ) (r : DeductionAnswer) (s′ m′ : List ℕ) : Type 0 where
-  pub is-accepted : r .tested ≡ Accepted
-  pub safe-found : (c d : ℕ) → shows p c ≡ 10 → shows p d ≤ 8 → has (near d) c ≡ true → Forced near p c false → AmongFirst (r .safe) s′ c
-  pub mines-found : (c d : ℕ) → shows p c ≡ 10 → shows p d ≤ 8 → has (near d) c ≡ true → Forced near p c true → AmongFirst (r .mines) m′ c
-
 -- ---- one list
 
 -- a list is stored at the front of what was lent, and n counts it: each of its cells is one of the first n entries
@@ -66,7 +54,7 @@ stored-among l lent after n room counted stored c h =
 
 module _ (rows columns : ℕ) (p s m : List ℕ) (r : DeductionAnswer) (p′ s′ m′ : List ℕ) (call : seen r p′ s′ m′ ≡ solveEnumerate rows columns p s m) where
   -- it is sound
-  pub enumerate-call-sound : SoundCall rows columns p s m r p′ s′ m′
+  pub enumerate-call-sound : SoundCall rows columns p s m (testedNumber (r .tested)) (r .safe) (r .mines) p′ s′ m′
   unfolding solveEnumerate
   enumerate-call-sound = call-sound enumerated rows columns p s m r p′ s′ m′ (λ _. enumeration-sound-on rows columns p) call
 
@@ -91,12 +79,12 @@ module _ (rows columns : ℕ) (p s m : List ℕ) (r : DeductionAnswer) (p′ s�
     sees-found = rw tests at call
 
     -- and complete
-    pub enumerate-call-complete : CompleteCall (neighbours rows columns) p r s′ m′
+    pub enumerate-call-complete : CompleteCall (neighbours rows columns) p (testedNumber (r .tested)) (r .safe) (r .mines) s′ m′
     enumerate-call-complete =
         let whole = enumeration-complete-on rows columns p layout fit in
         let told = sees-found ∙ after-lists found p s m (enumeration-sound-on rows columns p .no-contradiction layout fit) in
         record {
-          is-accepted = ap (λ (v : Seen). v .answer .tested) told;
+          is-accepted = ap (λ (v : Seen). testedNumber (v .answer .tested)) told;
           safe-found = λ c d closed is-open beside free.
               stored-among (found .safe) s s′ (r .safe) safe-fits (ap (λ (v : Seen). v .answer .safe) told) (ap (λ (v : Seen). v .safe) told) c
               (whole .safe-found c d closed is-open beside free);
@@ -104,3 +92,9 @@ module _ (rows columns : ℕ) (p s m : List ℕ) (r : DeductionAnswer) (p′ s�
               stored-among (found .mines) m m′ (r .mines) mines-fit (ap (λ (v : Seen). v .answer .mines) told) (ap (λ (v : Seen). v .mines) told) c
               (whole .mines-found c d closed is-open beside mined);
         }
+
+  -- so this holds of it
+  pub enumerate-call : SoundCall rows columns p s m (testedNumber (r .tested)) (r .safe) (r .mines) p′ s′ m′
+      × (deductionTested rows columns p (length s) (length m) ≡ Accepted → (layout : List Bool) → Fits (neighbours rows columns) p layout
+      → CompleteCall (neighbours rows columns) p (testedNumber (r .tested)) (r .safe) (r .mines) s′ m′)
+  enumerate-call = (enumerate-call-sound, enumerate-call-complete)

@@ -3,8 +3,10 @@
 pub mod Handed
 pub mod WrittenCells
 pub mod Deductions
--- what a caller has: the lists are true, and enumeration's are complete
+-- what specs/Calls.antt says of the calls: the lists are true, and enumeration's are complete
 pub mod SoundCalls
 pub mod EnumerationCalls
+-- where a call refuses with 6, in words of the position
+pub mod Contradictions
 -- what is answered can be read: counts are within the lists, and blocks fit
 pub mod ReadableCalls

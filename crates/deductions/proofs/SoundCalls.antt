@@ -1,8 +1,8 @@
--- What a caller of solve_direct and of solve_minus has, from what the calls ensure alone. An accepted call lists cells that were closed, of which the safe ones
--- have no mine in any layout that fits the position and the others are mines in each; it marks just these, and keeps every other byte. A refused call
--- keeps all. Where the tests pass and some layout fits, the call is accepted. Rests on Soundness of the crate rules and on the laws of what is written. Assumes nothing.
+-- What specs/Calls.antt says of solve_direct and of solve_minus, from the equations that the calls ensure. An accepted call hands on the lists of a rule that is sound at
+-- the position: they are what stands at the front of the slices, and of what is marked. A refused call keeps all. Said once for any rule that is sound.
+-- Rests on Soundness of the crate rules and on the laws of what is written. Assumes nothing.
 use mathlib.Core.Path.{_≡_, refl, sym, ap, _∙_}
-use mathlib.Core.Logic.{inl, inr}
+use mathlib.Core.Logic.{inl, inr, _≢_}
 use mathlib.Core.Bool.{Bool, true, false}
 use mathlib.Core.List.{List}
 use Prim.Native.Nat.{ℕ, _≤_, _<_}
@@ -18,10 +18,12 @@ use Rattle.refusals.specs.declared.Refusal.{Refusal}
 use Rattle.refusals.specs.declared.Refusal.the-variants.{Contradiction}
 use Rattle.refusals.specs.declared.Tested.{Tested}
 use Rattle.refusals.specs.declared.Tested.the-variants.{Accepted, Refused}
+use Rattle.refusals.specs.Refusals.{testedNumber}
 use Rattle.refusals.specs.Tests.{deductionTested}
 use Rattle.refusals.proofs.FirstFailure.{not-both}
+use Rattle.refusals.proofs.RefusalNumbers.{zero-accepted, else-refused}
 use Rattle.refusals.proofs.Accepted.{AcceptedDeduction, accepted-deduction}
-use Rattle.fitting.specs.Layouts.{Fits, Forced}
+use Rattle.fitting.specs.Layouts.{Fits}
 use Rattle.fitting.proofs.Layouts.{on-board}
 use Rattle.blocks.specs.Blocks.{Block}
 use Rattle.blocks.specs.BlockSets.{allCells}
@@ -30,58 +32,14 @@ use Rattle.rules.specs.Found.{Found}
 use Rattle.rules.specs.Direct.{direct}
 use Rattle.rules.proofs.Soundness.{SoundAt, listed-closed, listed-once, listed-few, listed-apart}
 use Rattle.subtraction.specs.Minus.{subtraction}
-use Rattle.deductions.specs.Answers.{Seen, seen, written, refusedAnswer, afterTests, deduction, solveDirect, solveMinus}
+use Rattle.deductions.specs.Answers.{Seen, seen, written, refusedAnswer, refused, afterTests, deduction, solveDirect, solveMinus}
+use Rattle.deductions.specs.Calls.{ListsTrue, OnlyMarked, AllKept, SoundCall}
 use Rattle.deductions.specs.declared.answer.DeductionAnswer.{DeductionAnswer}
 use Rattle.deductions.proofs.WrittenCells.{written-length, written-shows, written-elsewhere}
 use Rattle.deductions.proofs.Handed.{after-contradiction, after-lists}
 use Rattle.deductions.proofs.Deductions.{direct-sound-on, subtraction-sound-on}
 use Rattle.lists.proofs.Among.{Among}
 use Rattle.lists.proofs.ReadBack.{front-taken, front-read, front-kept}
-
--- ---- what a call may tell: p, s and m are what was lent, r is the answer, p′, s′ and m′ are what is lent after the call
-
--- the cells that the answer counts in the two lists: they were closed, none stands twice, and they are what their list says in every layout that fits
-pub record ListsTrue (near : ℕ → List ℕ) (p : List ℕ) (r : DeductionAnswer) (s′ m′ : List ℕ) : Type 0 where
-  pub safe-closed : (i : ℕ) → i < r .safe → shows p (getD s′ i 0) ≡ 10
-  pub safe-free : (i : ℕ) → i < r .safe → Forced near p (getD s′ i 0) false
-  pub safe-once : nodup (take (r .safe) s′) ≡ true
-  pub mines-closed : (i : ℕ) → i < r .mines → shows p (getD m′ i 0) ≡ 10
-  pub mines-mined : (i : ℕ) → i < r .mines → Forced near p (getD m′ i 0) true
-  pub mines-once : nodup (take (r .mines) m′) ≡ true
-
--- the position shows 11 at the listed mines, 12 at the listed safe cells, but 11 at those that are in both lists, and what it showed elsewhere; entries
--- past the counts are as they were
-pub record OnlyMarked (p s m : List ℕ) (r : DeductionAnswer) (p′ s′ m′ : List ℕ) : Type 0 where
-  pub at-mines : (i : ℕ) → i < r .mines → shows p′ (getD m′ i 0) ≡ 11
-  pub at-safe : (i : ℕ) → i < r .safe → has (take (r .mines) m′) (getD s′ i 0) ≡ false → shows p′ (getD s′ i 0) ≡ 12
-  pub elsewhere : (c : ℕ) → has (take (r .safe) s′) c ≡ false → has (take (r .mines) m′) c ≡ false → shows p′ c ≡ shows p c
-  pub position-length : length p′ ≡ length p
-  pub safe-kept : (i : ℕ) → r .safe ≤ i → getD s′ i 0 ≡ getD s i 0
-  pub safe-length : length s′ ≡ length s
-  pub mines-kept : (i : ℕ) → r .mines ≤ i → getD m′ i 0 ≡ getD m i 0
-  pub mines-length : length m′ ≡ length m
-
--- the refusal's name alone; every lent byte is as it was
-pub record AllKept (p s m : List ℕ) (x : Refusal) (r : DeductionAnswer) (p′ s′ m′ : List ℕ) : Type 0 where
-  pub name-alone : r ≡ refusedAnswer x
-  pub position-kept : p′ ≡ p
-  pub safe-kept : s′ ≡ s
-  pub mines-kept : m′ ≡ m
-
--- all that a caller has of a call on a board of so many rows and columns
-pub record SoundCall (rows columns : ℕ) (p s m : List ℕ) (r : DeductionAnswer) (p′ s′ m′ : List ℕ) : Type 0 where
-  -- what an accepted call lists is true
-  pub lists-true : r .tested ≡ Accepted → ListsTrue (neighbours rows columns) p r s′ m′
-  -- and it marks only that
-  pub only-marked : r .tested ≡ Accepted → OnlyMarked p s m r p′ s′ m′
-  -- where some layout fits no cell is in both lists, so that each listed safe cell shows 12
-  pub at-safe : r .tested ≡ Accepted → (layout : List Bool) → Fits (neighbours rows columns) p layout → (i : ℕ) → i < r .safe → shows p′ (getD s′ i 0) ≡ 12
-  -- a refused call keeps all
-  pub all-kept : (x : Refusal) → r .tested ≡ Refused x → AllKept p s m x r p′ s′ m′
-  -- a refusal by the tests is the call's
-  pub refuses : (x : Refusal) → deductionTested rows columns p (length s) (length m) ≡ Refused x → r .tested ≡ Refused x
-  -- where the tests pass and some layout fits, the call is accepted
-  pub accepts : deductionTested rows columns p (length s) (length m) ≡ Accepted → (layout : List Bool) → Fits (neighbours rows columns) p layout → r .tested ≡ Accepted
 
 -- ---- one list
 
@@ -126,6 +84,10 @@ module _ {near : ℕ → List ℕ} {p l lent after : List ℕ} {n : ℕ} (a : At
   front-length : length after ≡ length lent
   front-length = ap length (a .stored) ∙ length-sets lent 0 l
 
+  -- of which no more are counted than there are
+  counted-within : n ≤ length after
+  counted-within = omega (arith, fits, a .counted, front-length)
+
 -- ---- what the equation of a call says
 
 -- the rule met no contradiction, and its lists are handed on
@@ -157,31 +119,33 @@ module _ (f : Found) (p s m : List ℕ) (r : DeductionAnswer) (p′ s′ m′ : 
             position = ap (λ (v : Seen). v .position) told;
           }
 
-  -- a refusal leaves the slices as they were
-  kept : (x : Refusal) → seen r p′ s′ m′ ≡ seen (refusedAnswer x) p s m → AllKept p s m x r p′ s′ m′
-  kept x e = record {
-    name-alone = ap (λ (v : Seen). v .answer) e;
-    position-kept = ap (λ (v : Seen). v .position) e;
-    safe-kept = ap (λ (v : Seen). v .safe) e;
-    mines-kept = ap (λ (v : Seen). v .mines) e;
-  }
-
-  -- whichever it is
-  refused-kept : (t : Tested) → seen r p′ s′ m′ ≡ afterTests t f p s m → (x : Refusal) → r .tested ≡ Refused x → AllKept p s m x r p′ s′ m′
+  -- a refusal is its name alone, whoever gives it, and the slices are as they were
+  pub refused-alone : (t : Tested) → seen r p′ s′ m′ ≡ afterTests t f p s m → (x : Refusal) → r .tested ≡ Refused x → seen r p′ s′ m′ ≡ refused x p s m
   unfolding refusedAnswer
-  refused-kept (Refused y) e x a =
+  refused-alone (Refused y) e x a =
       let same : Refused x ≡ Refused y = sym a ∙ ap (λ (v : Seen). v .answer .tested) e in
       let is : y ≡ x = cc in
-      kept x (rw is at e)
-  refused-kept Accepted e x a = go (decided (f .contradiction))
+      rw is at e
+  refused-alone Accepted e x a = go (decided (f .contradiction))
     where
-      go : Decided (f .contradiction) → AllKept p s m x r p′ s′ m′
+      go : Decided (f .contradiction) → seen r p′ s′ m′ ≡ refused x p s m
       go (inl k) =
           let told = e ∙ after-contradiction f p s m k in
           let same : Refused x ≡ Refused Contradiction = sym a ∙ ap (λ (v : Seen). v .answer .tested) told in
           let is : Contradiction ≡ x = cc in
-          kept x (rw is at told)
+          rw is at told
       go (inr k) = not-both (r .tested) x (ap (λ (v : Seen). v .answer .tested) (e ∙ after-lists f p s m k)) a
+
+  -- so a number that is not 0 says that these are kept
+  kept : (t : Tested) → seen r p′ s′ m′ ≡ afterTests t f p s m → testedNumber (r .tested) ≢ 0 → AllKept p s m p′ s′ m′
+  kept t e n =
+      let (x, a) = else-refused (r .tested) n in
+      let alone = refused-alone t e x a in
+      record {
+        position-kept = ap (λ (v : Seen). v .position) alone;
+        safe-kept = ap (λ (v : Seen). v .safe) alone;
+        mines-kept = ap (λ (v : Seen). v .mines) alone;
+      }
 
   -- the tests' refusal is the call's
   refused-by-tests : (t : Tested) → seen r p′ s′ m′ ≡ afterTests t f p s m → (x : Refusal) → t ≡ Refused x → r .tested ≡ Refused x
@@ -206,11 +170,13 @@ module _ (near : ℕ → List ℕ) (f : Found) (p s m : List ℕ) (r : Deduction
   mines-front = record { among = sound .mines-among; room = mines-room; counted = g .mine-count; stored = g .mine-list }
 
   -- they are true
-  lists-are-true : ListsTrue near p r s′ m′
+  lists-are-true : ListsTrue near p (r .safe) (r .mines) s′ m′
   lists-are-true = record {
+    safe-within = counted-within safe-front;
     safe-closed = front-closed safe-front;
     safe-free = λ i h. sound .safe-free (getD s′ i 0) (front-has safe-front i h);
     safe-once = front-once safe-front;
+    mines-within = counted-within mines-front;
     mines-closed = front-closed mines-front;
     mines-mined = λ i h. sound .mines-mined (getD m′ i 0) (front-has mines-front i h);
     mines-once = front-once mines-front;
@@ -237,7 +203,7 @@ module _ (near : ℕ → List ℕ) (f : Found) (p s m : List ℕ) (r : Deduction
   shows-same c e n = rw (g .position) (written-elsewhere 11 (f .mines) safeMarked c n ∙ written-elsewhere 12 (f .safe) p c e)
 
   -- it marks only what it lists
-  marks-only : OnlyMarked p s m r p′ s′ m′
+  marks-only : OnlyMarked p s m (r .safe) (r .mines) p′ s′ m′
   marks-only = record {
     at-mines = shows-mine;
     at-safe = λ i h n. shows-safe i h (rw (front-list mines-front) at n);
@@ -285,28 +251,29 @@ module _ (rule : List Block → Found) (rows columns : ℕ) (p s m : List ℕ) (
     mines-room : length p ≤ length m
     mines-room = omega (arith, facts .position .board .whole, facts .mines-room)
 
-  pub call-sound : SoundCall rows columns p s m r p′ s′ m′
+  pub call-sound : SoundCall rows columns p s m (testedNumber (r .tested)) (r .safe) (r .mines) p′ s′ m′
   call-sound =
       let f = rule (frontier near p) in
+      let zero : testedNumber (r .tested) ≡ 0 → r .tested ≡ Accepted = zero-accepted (r .tested) in
       record {
-        lists-true = λ a. lists-are-true near f p s m r p′ s′ m′ (sound-here a) (safe-room a) (mines-room a) (lists a);
-        only-marked = λ a. marks-only near f p s m r p′ s′ m′ (sound-here a) (safe-room a) (mines-room a) (lists a);
-        at-safe = λ a. fitting-shows-safe near f p s m r p′ s′ m′ (sound-here a) (safe-room a) (mines-room a) (lists a);
-        all-kept = refused-kept f p s m r p′ s′ m′ tests call;
-        refuses = refused-by-tests f p s m r p′ s′ m′ tests call;
-        accepts = λ t layout fit. accepted f p s m r p′ s′ m′ tests call t
-            (sound (accepted-deduction rows columns p (length s) (length m) t .position .some-columns) .no-contradiction layout fit);
+        lists-true = λ n. let a = zero n in lists-are-true near f p s m r p′ s′ m′ (sound-here a) (safe-room a) (mines-room a) (lists a);
+        only-marked = λ n. let a = zero n in marks-only near f p s m r p′ s′ m′ (sound-here a) (safe-room a) (mines-room a) (lists a);
+        at-safe = λ n. let a = zero n in fitting-shows-safe near f p s m r p′ s′ m′ (sound-here a) (safe-room a) (mines-room a) (lists a);
+        all-kept = kept f p s m r p′ s′ m′ tests call;
+        refuses = λ x t. ap testedNumber (refused-by-tests f p s m r p′ s′ m′ tests call x t);
+        accepts = λ t layout fit. ap testedNumber (accepted f p s m r p′ s′ m′ tests call t
+            (sound (accepted-deduction rows columns p (length s) (length m) t .position .some-columns) .no-contradiction layout fit));
       }
 
 -- ---- the two calls
 
 module _ (rows columns : ℕ) (p s m : List ℕ) (r : DeductionAnswer) (p′ s′ m′ : List ℕ) where
   -- solve_direct
-  pub direct-call-sound : seen r p′ s′ m′ ≡ solveDirect rows columns p s m → SoundCall rows columns p s m r p′ s′ m′
+  pub direct-call-sound : seen r p′ s′ m′ ≡ solveDirect rows columns p s m → SoundCall rows columns p s m (testedNumber (r .tested)) (r .safe) (r .mines) p′ s′ m′
   unfolding solveDirect
   direct-call-sound e = call-sound direct rows columns p s m r p′ s′ m′ (direct-sound-on rows columns p) e
 
   -- solve_minus
-  pub minus-call-sound : seen r p′ s′ m′ ≡ solveMinus rows columns p s m → SoundCall rows columns p s m r p′ s′ m′
+  pub minus-call-sound : seen r p′ s′ m′ ≡ solveMinus rows columns p s m → SoundCall rows columns p s m (testedNumber (r .tested)) (r .safe) (r .mines) p′ s′ m′
   unfolding solveMinus
   minus-call-sound e = call-sound subtraction rows columns p s m r p′ s′ m′ (subtraction-sound-on rows columns p) e

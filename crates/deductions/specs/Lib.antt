@@ -1,2 +1,4 @@
--- The three calls on a position, and what a caller sees of them.
+-- The three calls on a position, what a caller sees of them, what that means, and where they refuse with 6.
 pub mod Answers
+pub mod Calls
+pub mod Contradictions

@@ -1,5 +1,6 @@
 // The three rules as calls on a position: each tests its input, reads a fresh frontier, hands out two lists of cells and marks them. specs/Answers.antt says
-// what a caller sees.
+// what a caller sees, specs/Calls.antt what that means and specs/Contradictions.antt where it is refusal 6: the first clause of each call gives every byte,
+// the others what demand 2 asks of it.
 pub mod answer;
 
 use answer::DeductionAnswer;
@@ -12,7 +13,17 @@ use rules::direct::direct_rule;
 use solutions::enumerate::enumerate_rule;
 use subtraction::minus_rule;
 ghost use mathlib.Core.Path.{_≡_};
+ghost use mathlib.Core.Bool.{Bool};
+ghost use mathlib.Core.List.{List};
+ghost use lib.ListN.{length};
+ghost use Rattle.grid.specs.Window.{neighbours};
+ghost use Rattle.refusals.specs.declared.Tested.the-variants.{Accepted};
+ghost use Rattle.refusals.specs.Refusals.{testedNumber};
+ghost use Rattle.refusals.specs.Tests.{deductionTested};
+ghost use Rattle.fitting.specs.Layouts.{Fits};
 ghost use Rattle.deductions.specs.Answers.{seen, solveDirect, solveMinus, solveEnumerate};
+ghost use Rattle.deductions.specs.Calls.{SoundCall, CompleteCall};
+ghost use Rattle.deductions.specs.Contradictions.{DirectRefuses, MinusRefuses, EnumerateRefuses};
 
 // solve_direct on a position: refusals 1 to 3, then 6.
 pub fn solve_direct(
@@ -23,6 +34,9 @@ pub fn solve_direct(
     mines: &mut [u16],
 ) -> DeductionAnswer
     ensures { λ r. ⌜ seen r (now (position .exit)) (now (safe .exit)) (now (mines .exit)) ≡ solveDirect rows columns (now (position .entry)) (now (safe .entry)) (now (mines .entry)) ⌝ }
+    ensures sound { λ r. ⌜ SoundCall rows columns (now (position .entry)) (now (safe .entry)) (now (mines .entry))
+        (testedNumber (r .tested)) (r .safe) (r .mines) (now (position .exit)) (now (safe .exit)) (now (mines .exit)) ⌝ }
+    ensures six { λ r. ⌜ DirectRefuses rows columns (now (position .entry)) (now (safe .entry)) (now (mines .entry)) (testedNumber (r .tested)) ⌝ }
 {
     match test_deduction(rows, columns, position, safe.len(), mines.len()) {
         Tested::Accepted => {
@@ -42,6 +56,9 @@ pub fn solve_minus(
     mines: &mut [u16],
 ) -> DeductionAnswer
     ensures { λ r. ⌜ seen r (now (position .exit)) (now (safe .exit)) (now (mines .exit)) ≡ solveMinus rows columns (now (position .entry)) (now (safe .entry)) (now (mines .entry)) ⌝ }
+    ensures sound { λ r. ⌜ SoundCall rows columns (now (position .entry)) (now (safe .entry)) (now (mines .entry))
+        (testedNumber (r .tested)) (r .safe) (r .mines) (now (position .exit)) (now (safe .exit)) (now (mines .exit)) ⌝ }
+    ensures six { λ r. ⌜ MinusRefuses rows columns (now (position .entry)) (now (safe .entry)) (now (mines .entry)) (testedNumber (r .tested)) ⌝ }
 {
     match test_deduction(rows, columns, position, safe.len(), mines.len()) {
         Tested::Accepted => {
@@ -61,6 +78,12 @@ pub fn solve_enumerate(
     mines: &mut [u16],
 ) -> DeductionAnswer
     ensures { λ r. ⌜ seen r (now (position .exit)) (now (safe .exit)) (now (mines .exit)) ≡ solveEnumerate rows columns (now (position .entry)) (now (safe .entry)) (now (mines .entry)) ⌝ }
+    ensures sound { λ r. ⌜ SoundCall rows columns (now (position .entry)) (now (safe .entry)) (now (mines .entry))
+        (testedNumber (r .tested)) (r .safe) (r .mines) (now (position .exit)) (now (safe .exit)) (now (mines .exit)) ⌝ }
+    ensures complete { λ r. ⌜ (deductionTested rows columns (now (position .entry)) (length (now (safe .entry))) (length (now (mines .entry))) ≡ Accepted
+        → (layout : List Bool) → Fits (neighbours rows columns) (now (position .entry)) layout
+        → CompleteCall (neighbours rows columns) (now (position .entry)) (testedNumber (r .tested)) (r .safe) (r .mines) (now (safe .exit)) (now (mines .exit))) ⌝ }
+    ensures six { λ r. ⌜ EnumerateRefuses rows columns (now (position .entry)) (now (safe .entry)) (now (mines .entry)) (testedNumber (r .tested)) ⌝ }
 {
     match test_deduction(rows, columns, position, safe.len(), mines.len()) {
         Tested::Accepted => {

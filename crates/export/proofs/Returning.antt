@@ -1,6 +1,6 @@
 -- What a call returns to C or Rust, from what its inner call answers: a refusal's number with every slice as it was, or 0 with the counts laid over the front of
 -- their slice, one store after another. Said once for all calls. Assumes nothing.
-use mathlib.Core.Path.{_≡_, sym, ap, _∙_}
+use mathlib.Core.Path.{_≡_, refl, sym, ap, _∙_}
 use mathlib.Core.List.{List, [], _∷_}
 use Prim.Native.Nat.{ℕ}
 use lib.ListN.{set}
@@ -11,12 +11,16 @@ use Rattle.refusals.specs.Refusals.{refusalNumber}
 use Rattle.deductions.specs.declared.answer.DeductionAnswer.{DeductionAnswer}
 use Rattle.deductions.specs.Answers.{Seen, seen}
 use Rattle.tables.specs.declared.TableAnswer.{TableAnswer}
-use Rattle.tables.specs.Tables.{TableSeen, tableSeen}
+use Rattle.tables.specs.Tables.{tableNumber, tableValues, TableSeen, tableSeen}
 use Rattle.verdict.specs.declared.Verdict.{Verdict}
-use Rattle.verdict.specs.Verdict.{VerdictSeen, verdictSeen}
-use Rattle.export.specs.Returned.{Returned, returned, laid, answered, deductionReturned, listedReturned, tableReturned, judgedReturned, verdictReturned}
+use Rattle.verdict.specs.Verdict.{verdictNumber, verdictValues, VerdictSeen, verdictSeen}
+use Rattle.export.specs.Returned.{Returned, returned, laid, answered, deductionReturned, tableReturned, verdictReturned}
 
 -- ---- stores one after another
+
+pub none-laid : (before : List ℕ) → before ≡ laid [] before
+unfolding laid
+none-laid before = refl
 
 pub one-laid : (before : List ℕ) {first : List ℕ} (a : ℕ) → first ≡ set before 0 a → first ≡ laid (a ∷ []) before
 unfolding laid
@@ -47,19 +51,23 @@ module _ {t : Tested} (values : List ℕ) {lent : List (List ℕ)} (counts : Lis
   unfolding answered
   acceptance-returned told is = rw told (rw is)
 
+-- the number of an answer, and the counts with its values
+pub values-returned : {n m : ℕ} {lent : List (List ℕ)} {after counts : List ℕ} → n ≡ m → after ≡ counts → returned n lent after ≡ returned m lent counts
+values-returned number is = rw (number, is)
+
 -- what is returned by the answer's form is returned by what the definition asks for
 pub by-form : {A : Type 0} (f : A → Returned) {asked answer form : A} {w : Returned} → answer ≡ asked → answer ≡ form → w ≡ f form → w ≡ f asked
 by-form f is which e = e ∙ ap f (sym which ∙ is)
 
 -- likewise of an answer with a lent slice
 pub table-returned : {asked : TableSeen} {answer form : TableAnswer} {rows : List ℕ} (counts : List ℕ) {w : Returned} → tableSeen answer rows ≡ asked
-    → answer ≡ form → w ≡ listedReturned form rows counts → w ≡ tableReturned asked counts
+    → answer ≡ form → w ≡ returned (tableNumber form) (rows ∷ []) (laid (tableValues form) counts) → w ≡ tableReturned asked counts
 unfolding tableReturned
 table-returned {rows = rows} counts call which e =
     by-form (λ (v : TableSeen). tableReturned v counts) call (ap (λ (a : TableAnswer). tableSeen a rows) which) e
 
 pub verdict-returned : {asked : VerdictSeen} {answer form : Verdict} {shown : List ℕ} (counts : List ℕ) {w : Returned} → verdictSeen answer shown ≡ asked
-    → answer ≡ form → w ≡ judgedReturned form shown counts → w ≡ verdictReturned asked counts
+    → answer ≡ form → w ≡ returned (verdictNumber form) (shown ∷ []) (laid (verdictValues form) counts) → w ≡ verdictReturned asked counts
 unfolding verdictReturned
 verdict-returned {shown = shown} counts call which e =
     by-form (λ (v : VerdictSeen). verdictReturned v counts) call (ap (λ (a : Verdict). verdictSeen a shown) which) e

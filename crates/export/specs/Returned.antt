@@ -3,20 +3,15 @@
 use mathlib.Core.List.{List, [], _∷_}
 use Prim.Native.Nat.{ℕ}
 use lib.Seq.{sets}
-use Rattle.lists.specs.Lists.{bit}
 use Rattle.refusals.specs.declared.Tested.{Tested}
 use Rattle.refusals.specs.declared.Tested.the-variants as test
 use Rattle.refusals.specs.Refusals.{testedNumber}
 use Rattle.frontier.specs.declared.FrontierAnswer.{FrontierAnswer}
 use Rattle.deductions.specs.Answers.{Seen}
-use Rattle.tables.specs.declared.TableAnswer.{TableAnswer}
-use Rattle.tables.specs.declared.TableAnswer.the-variants as table
-use Rattle.tables.specs.Tables.{TableSeen}
+use Rattle.tables.specs.Tables.{tableNumber, tableValues, TableSeen}
 use Rattle.patterns.specs.declared.PatternAnswer.{PatternAnswer}
-use Rattle.patterns.specs.declared.PatternAnswer.the-variants as pattern
-use Rattle.verdict.specs.declared.Verdict.{Verdict}
-use Rattle.verdict.specs.declared.Verdict.the-variants as verdict
-use Rattle.verdict.specs.Verdict.{VerdictSeen}
+use Rattle.patterns.specs.Answer.{patternNumber, patternValues}
+use Rattle.verdict.specs.Verdict.{verdictNumber, verdictValues, VerdictSeen}
 
 pub record Returned : Type 0 where
   pub number : ℕ
@@ -49,24 +44,13 @@ deductionReturned w counts =
     answered (w .answer .tested) (w .answer .safe ∷ w .answer .mines ∷ []) (w .position ∷ w .safe ∷ w .mines ∷ []) counts
 
 -- the solution table: solutions, groups
-unfoldable pub listedReturned : TableAnswer → List ℕ → List ℕ → Returned
-listedReturned (table.Refused r) rows counts = answered (test.Refused r) [] (rows ∷ []) counts
-listedReturned (table.Listed solutions groups) rows counts = answered test.Accepted (solutions ∷ groups ∷ []) (rows ∷ []) counts
-
 unfoldable pub tableReturned : TableSeen → List ℕ → Returned
-tableReturned w counts = listedReturned (w .answer) (w .table) counts
+tableReturned w counts = returned (tableNumber (w .answer)) (w .table ∷ []) (laid (tableValues (w .answer)) counts)
 
 -- the pattern call: 1 where a pattern is found
 unfoldable pub patternReturned : PatternAnswer → List ℕ → Returned
-patternReturned (pattern.Refused r) counts = answered (test.Refused r) [] [] counts
-patternReturned pattern.NotFound counts = answered test.Accepted (0 ∷ []) [] counts
-patternReturned pattern.Found counts = answered test.Accepted (1 ∷ []) [] counts
+patternReturned a counts = returned (patternNumber a) [] (laid (patternValues a) counts)
 
 -- the verdict: 1 for yes, opened cells, grade, rounds
-unfoldable pub judgedReturned : Verdict → List ℕ → List ℕ → Returned
-judgedReturned (verdict.Refused r) shown counts = answered (test.Refused r) [] (shown ∷ []) counts
-judgedReturned (verdict.Judged v opened grade rounds) shown counts =
-    answered test.Accepted (bit v ∷ opened ∷ grade ∷ rounds ∷ []) (shown ∷ []) counts
-
 unfoldable pub verdictReturned : VerdictSeen → List ℕ → Returned
-verdictReturned w counts = judgedReturned (w .answer) (w .shown) counts
+verdictReturned w counts = returned (verdictNumber (w .answer)) (w .shown ∷ []) (laid (verdictValues (w .answer)) counts)

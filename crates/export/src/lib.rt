@@ -1,5 +1,7 @@
 // What C and Rust call. Every call answers 0 or document 01's number of the refusal; its counts go to the front of the lent slice `counts`, as many as that
 // has room for. A refusal writes nothing. Numbers and slices only (a slice is a pointer and its length), and nothing is asked of the caller.
+// The first clause of a call gives the number and every lent byte, whatever room there is for counts. What demands 2 and 3 ask is said in the other clauses, of
+// the number, the slices and the first two counts, where there is room for both; when a rule refuses with 6 is said of the number alone.
 use deductions::solve_direct;
 use deductions::solve_enumerate;
 use deductions::solve_minus;
@@ -14,7 +16,8 @@ use verdict::Verdict;
 use verdict::is_solvable;
 ghost use mathlib.Core.Path.{_≡_};
 ghost use mathlib.Core.Logic.{_≢_};
-ghost use mathlib.Core.List.{[], _∷_};
+ghost use mathlib.Core.Bool.{Bool};
+ghost use mathlib.Core.List.{List, [], _∷_};
 ghost use Prim.Native.Nat.{_<_};
 ghost use lib.Dec.{eqb};
 ghost use lib.ListN.{length, getD, set};
@@ -22,11 +25,15 @@ ghost use Rattle.lists.specs.Lists.{bit as bitOf};
 ghost use Rattle.grid.specs.Cells.{cellOf};
 ghost use Rattle.grid.specs.Window.{neighbours};
 ghost use Rattle.refusals.specs.declared.Tested.the-variants.{Accepted};
-ghost use Rattle.refusals.specs.Tests.{boardTested, startCell};
+ghost use Rattle.refusals.specs.Tests.{boardTested, deductionTested, startCell};
+ghost use Rattle.fitting.specs.Layouts.{Fits};
 ghost use Rattle.fitting.specs.Demand.{Demand3};
 ghost use Rattle.frontier.specs.Answer.{refreshMatrixs};
 ghost use Rattle.deductions.specs.Answers.{solveDirect, solveMinus, solveEnumerate};
+ghost use Rattle.deductions.specs.Calls.{SoundCall, CompleteCall};
+ghost use Rattle.deductions.specs.Contradictions.{DirectRefuses, MinusRefuses, EnumerateRefuses};
 ghost use Rattle.tables.specs.Tables.{calAllSolution};
+ghost use Rattle.tables.specs.Listed.{TableCall};
 ghost use Rattle.patterns.specs.Answer.{unsolvableStructure};
 ghost use Rattle.verdict.specs.Verdict.{isSolvable};
 ghost use Rattle.export.specs.Returned.{returned, answered, frontierReturned, deductionReturned, tableReturned, patternReturned, verdictReturned};
@@ -85,7 +92,8 @@ pub extern "C" fn lihvompa_frontier(
     }
 }
 
-// solve_direct: the lists go to the two slices, and their cells are marked in the position. Counts: safe cells, mines.
+// solve_direct: the lists go to the two slices, and their cells are marked in the position. Counts: safe cells, mines. A caller that lends room for both has
+// demand 2 of them and of the slices: each listed cell is so in every layout that fits the position.
 #[no_mangle]
 pub extern "C" fn lihvompa_direct(
     rows: usize,
@@ -97,6 +105,9 @@ pub extern "C" fn lihvompa_direct(
 ) -> u8
     ensures { λ r. ⌜ returned r (now (position .exit) ∷ now (safe .exit) ∷ now (mines .exit) ∷ []) (now (counts .exit))
         ≡ deductionReturned (solveDirect rows columns (now (position .entry)) (now (safe .entry)) (now (mines .entry))) (now (counts .entry)) ⌝ }
+    ensures sound { λ r. ⌜ (1 < length (now (counts .entry)) → SoundCall rows columns (now (position .entry)) (now (safe .entry)) (now (mines .entry))
+        r (getD (now (counts .exit)) 0 0) (getD (now (counts .exit)) 1 0) (now (position .exit)) (now (safe .exit)) (now (mines .exit))) ⌝ }
+    ensures six { λ r. ⌜ DirectRefuses rows columns (now (position .entry)) (now (safe .entry)) (now (mines .entry)) r ⌝ }
 {
     let answer = solve_direct(rows, columns, position, safe, mines);
     let tested = answer.tested;
@@ -115,13 +126,16 @@ pub extern "C" fn lihvompa_minus(
 ) -> u8
     ensures { λ r. ⌜ returned r (now (position .exit) ∷ now (safe .exit) ∷ now (mines .exit) ∷ []) (now (counts .exit))
         ≡ deductionReturned (solveMinus rows columns (now (position .entry)) (now (safe .entry)) (now (mines .entry))) (now (counts .entry)) ⌝ }
+    ensures sound { λ r. ⌜ (1 < length (now (counts .entry)) → SoundCall rows columns (now (position .entry)) (now (safe .entry)) (now (mines .entry))
+        r (getD (now (counts .exit)) 0 0) (getD (now (counts .exit)) 1 0) (now (position .exit)) (now (safe .exit)) (now (mines .exit))) ⌝ }
+    ensures six { λ r. ⌜ MinusRefuses rows columns (now (position .entry)) (now (safe .entry)) (now (mines .entry)) r ⌝ }
 {
     let answer = solve_minus(rows, columns, position, safe, mines);
     let tested = answer.tested;
     put_deduction(tested, answer.safe, answer.mines, counts)
 }
 
-// solve_enumerate, likewise.
+// solve_enumerate, likewise; and where some layout fits, each cell of the frontier that is the same in all of them is listed.
 #[no_mangle]
 pub extern "C" fn lihvompa_enumerate(
     rows: usize,
@@ -133,13 +147,22 @@ pub extern "C" fn lihvompa_enumerate(
 ) -> u8
     ensures { λ r. ⌜ returned r (now (position .exit) ∷ now (safe .exit) ∷ now (mines .exit) ∷ []) (now (counts .exit))
         ≡ deductionReturned (solveEnumerate rows columns (now (position .entry)) (now (safe .entry)) (now (mines .entry))) (now (counts .entry)) ⌝ }
+    ensures sound { λ r. ⌜ (1 < length (now (counts .entry)) → SoundCall rows columns (now (position .entry)) (now (safe .entry)) (now (mines .entry))
+        r (getD (now (counts .exit)) 0 0) (getD (now (counts .exit)) 1 0) (now (position .exit)) (now (safe .exit)) (now (mines .exit))) ⌝ }
+    ensures complete { λ r. ⌜ (1 < length (now (counts .entry))
+        → deductionTested rows columns (now (position .entry)) (length (now (safe .entry))) (length (now (mines .entry))) ≡ Accepted
+        → (layout : List Bool) → Fits (neighbours rows columns) (now (position .entry)) layout
+        → CompleteCall (neighbours rows columns) (now (position .entry))
+        r (getD (now (counts .exit)) 0 0) (getD (now (counts .exit)) 1 0) (now (safe .exit)) (now (mines .exit))) ⌝ }
+    ensures six { λ r. ⌜ EnumerateRefuses rows columns (now (position .entry)) (now (safe .entry)) (now (mines .entry)) r ⌝ }
 {
     let answer = solve_enumerate(rows, columns, position, safe, mines);
     let tested = answer.tested;
     put_deduction(tested, answer.safe, answer.mines, counts)
 }
 
-// cal_all_solution: the rows of a block's solutions go to the front of the table. Counts: solutions, groups.
+// cal_all_solution: the rows of a block's solutions go to the front of the table. Counts: solutions, groups. A caller that lends room for both has of them and of
+// the table that it lists every solution of the block asked for, once and in order.
 #[no_mangle]
 pub extern "C" fn lihvompa_table(
     rows: usize,
@@ -151,6 +174,8 @@ pub extern "C" fn lihvompa_table(
 ) -> u8
     ensures { λ r. ⌜ returned r (now (table .exit) ∷ []) (now (counts .exit))
         ≡ tableReturned (calAllSolution rows columns (now (position .entry)) block (now (table .entry))) (now (counts .entry)) ⌝ }
+    ensures listed { λ r. ⌜ (1 < length (now (counts .entry)) → TableCall rows columns (now (position .entry)) block (now (table .entry))
+        r (getD (now (counts .exit)) 0 0) (getD (now (counts .exit)) 1 0) (now (table .exit))) ⌝ }
 {
     let answer = cal_all_solution(rows, columns, position, block, table);
     match answer {

@@ -1,15 +1,18 @@
--- The frontier and the layouts that fit: a layout that fits solves every equation of the frontier; and where one layout fits, each solution of a
--- block is part of a layout that fits, since blocks share no closed cell. So a block alone tells which of its cells are forced. `near` lists at most eight
--- neighbours of a cell, none twice. Rests on Partition, on BlockLaws, and on Frontier and Blocks of the crate fitting. Assumes nothing.
+-- The frontier and the layouts that fit: mines that give each open cell with a closed neighbour its number, as those of a layout that fits do, solve every
+-- equation of the frontier; and where one layout fits, each solution of a block is part of a layout that fits, since blocks share no closed cell. So a
+-- block alone tells which of its cells are forced. `near` lists at most eight neighbours of a cell, none twice. Rests on Partition, on BlockLaws, and on
+-- Frontier and Blocks of the crate fitting. Assumes nothing.
 use mathlib.Core.Path.{_≡_, subst, _∙_}
 use mathlib.Core.Logic.{_⊎_, inl, inr}
-use mathlib.Core.Bool.{Bool, true, false, cond}
+use mathlib.Core.Bool.{Bool, true, false, not, cond}
 use mathlib.Core.List.{List, List·Memᴰ}
 use Prim.Native.Nat.{ℕ, _≤_}
+use lib.Dec.{leb}
 use lib.ListN.{length}
-use Rattle.lists.specs.Lists.{empty, has, nodup}
-use Rattle.lists.proofs.Tests.{Decided, decided, clash}
-use Rattle.lists.proofs.Members.{empty-none}
+use borrow.Author.Tests.{leb-true}
+use Rattle.lists.specs.Lists.{range, empty, has, nodup}
+use Rattle.lists.proofs.Tests.{Decided, decided, clash, and-left}
+use Rattle.lists.proofs.Members.{empty-none, kept-passes}
 use Rattle.lists.proofs.Unions.{meets-of}
 use Rattle.grid.specs.Cells.{shows}
 use Rattle.fitting.specs.Layouts.{mineAt, Fits, Forced}
@@ -19,11 +22,11 @@ use Rattle.fitting.proofs.Frontier.{layoutOf, layout-at, fits-holds}
 use Rattle.fitting.proofs.Blocks.{Around, part-fits}
 use Rattle.blocks.specs.Blocks.{BlockEquation, Block, says}
 use Rattle.blocks.specs.BlockSets.{allEquations}
-use Rattle.sources.specs.Sources.{closedBeside, sources}
+use Rattle.sources.specs.Sources.{closedBeside, isSource, sources}
 use Rattle.sources.proofs.ListedSources.{source-listed}
-use Rattle.growth.proofs.Partition.{parts, sharing-together}
+use Rattle.growth.proofs.Partition.{parts, part-has-sources, sharing-together}
 use Rattle.frontier.specs.Frontier.{equationOf, cellsMet, blockOf, frontier}
-use Rattle.frontier.proofs.BlockLaws.{block-equation, block-cell-source, source-block-cell, block-closed, source-equation, equation-says, frontier-part, Origin, equation-origin, origin-open}
+use Rattle.frontier.proofs.BlockLaws.{block-equation, block-cell-source, source-block-cell, block-closed, source-equation, equation-says, frontier-part, Origin, equation-origin}
 
 -- the equations of a block, each with its place, as a family
 abbrev pub EquationIn : Block → Type 0
@@ -37,21 +40,38 @@ saysIn b i = says (i .0)
 abbrev pub Solves : (ℕ → Bool) → Block → Type 0
 Solves f b = Solution (saysIn b) f
 
+-- they solve the equation of each open cell with a closed neighbour
+abbrev pub SolvesSources : (ℕ → List ℕ) → List ℕ → (ℕ → Bool) → Type 0
+SolvesSources near p f = (d : ℕ) → isSource near p d ≡ true → Holds f (equationAt near p d)
+
 -- the layout with g on the cells of a block, and m elsewhere
 abbrev pub spliced : List ℕ → Block → (ℕ → Bool) → List Bool → List Bool
 spliced p b g m = layoutOf p (λ c. cond (has (b .cells) c) (g c) (mineAt m c))
 
 module _ (near : ℕ → List ℕ) (p : List ℕ) (once : (c : ℕ) → nodup (near c) ≡ true) (few : (c : ℕ) → length (near c) ≤ 8) where
-  -- a layout that fits solves every equation of the frontier
-  pub fits-solves : (m : List Bool) → Fits near p m
-      → (e : BlockEquation) → List·Memᴰ e (allEquations (frontier near p)) → Holds (mineAt m) (says e)
-  fits-solves m f e k = go (equation-origin near p e k)
+  -- a source passes the test of one
+  source-passes : (d : ℕ) → has (sources near p) d ≡ true → isSource near p d ≡ true
+  unfolding sources
+  source-passes d h = kept-passes (isSource near p) (range 0 (length p)) d h
+
+  -- mines that give each open cell with a closed neighbour its number solve every equation of the frontier
+  pub sources-solve : (f : ℕ → Bool) → SolvesSources near p f → (e : BlockEquation) → List·Memᴰ e (allEquations (frontier near p)) → Holds f (says e)
+  sources-solve f s e k = go (equation-origin near p e k)
     where
-      go : Origin near p e → Holds (mineAt m) (says e)
+      go : Origin near p e → Holds f (says e)
       go o =
           rw (o .same)
-          (equation-says near p (o .part) (o .source) (o .of-part) (once (o .source)) (few (o .source)) (mineAt m) .1
-          (fits-holds near p m f (o .source) (origin-open near p e o)))
+          (equation-says near p (o .part) (o .source) (o .of-part) (once (o .source)) (few (o .source)) f .1
+          (s (o .source) (source-passes (o .source) (part-has-sources near p (o .part) (o .of-frontier) (o .source) (o .of-part)))))
+
+  -- as those of a layout that fits do
+  pub fits-sources : (m : List Bool) → Fits near p m → SolvesSources near p (mineAt m)
+  fits-sources m f d h = fits-holds near p m f d (leb-true (shows p d) 8 (and-left (leb (shows p d) 8) (not (empty (closedBeside near p d))) h))
+
+  -- so a layout that fits solves every equation of the frontier
+  pub fits-solves : (m : List Bool) → Fits near p m
+      → (e : BlockEquation) → List·Memᴰ e (allEquations (frontier near p)) → Holds (mineAt m) (says e)
+  fits-solves m f = sources-solve (mineAt m) (fits-sources m f)
 
   -- ---- the sources of one part
 

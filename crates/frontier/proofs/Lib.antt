@@ -5,6 +5,8 @@ pub mod BlockLaws
 pub mod Coverage
 -- what a layout that fits, and a solution of a block, say of each other
 pub mod Fitting
+-- all blocks solved at once
+pub mod JoinedBlocks
 -- the two counts, a block that is written, and one block more
 pub mod CountTurns
 pub mod WrittenBlock

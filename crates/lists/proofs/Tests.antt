@@ -8,7 +8,7 @@ use native.Mathlib.Omega.{arith}
 use native.Mathlib.Numerals.{add-one}
 use lib.Dec.{eqb}
 use borrow.Author.Tests.{eqb-true, eqb-false, eq-eqb}
-use Rattle.lists.specs.Lists.{every}
+use Rattle.lists.specs.Lists.{every, bit}
 
 -- a test passes or fails
 abbrev pub Decided : Bool → Type 0
@@ -27,6 +27,11 @@ pub same-test : (a b : Bool) → (a ≡ true → b ≡ true) → (b ≡ true →
 same-test true b f g = sym (f refl)
 same-test false true f g = g refl
 same-test false false f g = refl
+
+-- a test is read back from its bit
+pub bit-is-one : (t : Bool) → eqb (bit t) 1 ≡ t
+bit-is-one true = refl
+bit-is-one false = refl
 
 -- ---- "and" and "or"
 

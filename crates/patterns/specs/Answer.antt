@@ -1,6 +1,6 @@
 -- The answer of the pattern call: refusals 1 to 3 of document 01's table, else whether a pattern is found. It looks at mines only. Assumes nothing.
-use mathlib.Core.Bool.{Bool, true, false, cond}
-use mathlib.Core.List.{List}
+use mathlib.Core.Bool.{Bool, cond}
+use mathlib.Core.List.{List, [], _∷_}
 use Prim.Native.Nat.{ℕ}
 use Rattle.refusals.specs.declared.Tested.{Tested}
 use Rattle.refusals.specs.declared.Tested.the-variants as tests
@@ -19,14 +19,14 @@ answerAfter (tests.Refused r) found = Refused r
 unfoldable pub unsolvableStructure : ℕ → ℕ → List ℕ → PatternAnswer
 unsolvableStructure rows columns b = answerAfter (patternTested rows columns b) (patternFound rows columns b)
 
--- the number of an answer's refusal: 0 where nothing is refused
-abbrev pub answerRefusal : PatternAnswer → ℕ
-answerRefusal (Refused r) = refusalNumber r
-answerRefusal NotFound = 0
-answerRefusal Found = 0
+-- document 01's number of an answer: 0, or the refusal's
+abbrev pub patternNumber : PatternAnswer → ℕ
+patternNumber (Refused r) = refusalNumber r
+patternNumber NotFound = 0
+patternNumber Found = 0
 
--- whether an answer says that a pattern is found
-abbrev pub answerFound : PatternAnswer → Bool
-answerFound (Refused r) = false
-answerFound NotFound = false
-answerFound Found = true
+-- and its values: 1 where a pattern is found, else 0; a refusal has none
+abbrev pub patternValues : PatternAnswer → List ℕ
+patternValues (Refused r) = []
+patternValues NotFound = 0 ∷ []
+patternValues Found = 1 ∷ []

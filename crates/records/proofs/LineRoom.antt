@@ -8,9 +8,11 @@ use native.Mathlib.Omega.{arith}
 use lib.Dec.{ltb}
 use lib.ListN.{length, take, length-append}
 use Rattle.refusals.specs.Refusals.{refusalNumber}
+use Rattle.refusals.proofs.FirstFailure.{refusal-not-zero}
 use Rattle.lists.proofs.Stores.{slice-stored}
 use Rattle.verdict.specs.declared.Verdict.{Verdict}
 use Rattle.verdict.specs.declared.Verdict.the-variants.{Refused, Judged}
+use Rattle.verdict.specs.Verdict.{verdictYes}
 use Rattle.text.specs.Text.{decimalUpTo, decimal, Written}
 use Rattle.records.specs.Answers.{verdictWord, verdictText, lineText}
 
@@ -34,9 +36,9 @@ word-few false = omega arith
 
 verdict-few : (v : Verdict) → length (verdictText v) ≤ 66
 unfolding verdictText
-verdict-few (Refused r) = simp length-append (omega (arith, decimal-few (refusalNumber r)))
+verdict-few (Refused r) = rw (refusal-not-zero r) (simp length-append (omega (arith, decimal-few (refusalNumber r))))
 verdict-few (Judged solvable opened grade rounds) =
-    simp length-append (omega (arith, word-few solvable, decimal-few opened, decimal-few grade, decimal-few rounds))
+    simp length-append (omega (arith, word-few (verdictYes (Judged solvable opened grade rounds)), decimal-few opened, decimal-few grade, decimal-few rounds))
 
 pub line-few : (number : ℕ) (v : Verdict) → length (lineText number v) ≤ 88
 unfolding lineText

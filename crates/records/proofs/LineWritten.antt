@@ -6,8 +6,10 @@ use mathlib.Core.Bool.{Bool}
 use mathlib.Core.List.{List, [], _∷_}
 use native.Mathlib.Omega.{arith}
 use lib.ListN.{length}
+use Rattle.lists.proofs.Tests.{bit-is-one}
 use Rattle.refusals.specs.declared.Refusal.{Refusal}
 use Rattle.refusals.specs.Refusals.{refusalNumber}
+use Rattle.refusals.proofs.FirstFailure.{refusal-not-zero}
 use Rattle.verdict.specs.declared.Verdict.{Verdict}
 use Rattle.verdict.specs.declared.Verdict.the-variants.{Refused, Judged}
 use Rattle.text.specs.Text.{decimal, Written}
@@ -19,7 +21,7 @@ module _ {b : List ℕ} {at : ℕ} {first : List ℕ} {r : ℕ} {after : List �
       → Written b at (114 ∷ 101 ∷ 102 ∷ 117 ∷ 115 ∷ 101 ∷ 100 ∷ 32 ∷ []) first r → Written first r (decimal n) after s
       → Written b at (verdictText v) after s
   unfolding verdictText
-  refused-written e h word number = rw e (written-both room word (rw h at number))
+  refused-written {refusal = refusal} e h word number = rw (e, refusal-not-zero refusal) (written-both room word (rw h at number))
 
   pub judged-written : {v : Verdict} {yes : Bool} {opened grade rounds : ℕ} {second : List ℕ} {t : ℕ} {third : List ℕ} {u : ℕ} {fourth : List ℕ} {w : ℕ} {fifth : List ℕ} {x : ℕ}
       → v ≡ Judged yes opened grade rounds
@@ -27,8 +29,8 @@ module _ {b : List ℕ} {at : ℕ} {first : List ℕ} {r : ℕ} {after : List �
       → Written third u (decimal grade) fourth w → Written fourth w (32 ∷ []) fifth x → Written fifth x (decimal rounds) after s
       → Written b at (verdictText v) after s
   unfolding verdictText
-  judged-written e word cells gap strength space passes =
-      rw e
+  judged-written {yes = solvable} e word cells gap strength space passes =
+      rw (e, bit-is-one solvable)
       (written-both room word
       (written-both (written-within word) cells
       (written-both (written-within cells) gap

@@ -3,11 +3,11 @@
 use mathlib.Core.Bool.{Bool, cond}
 use mathlib.Core.List.{List, [], _∷_, _++_}
 use Prim.Native.Nat.{ℕ}
+use lib.Dec.{eqb}
 use lib.ListN.{replicate}
-use Rattle.refusals.specs.Refusals.{refusalNumber}
 use Rattle.verdict.specs.declared.Verdict.{Verdict}
-use Rattle.verdict.specs.declared.Verdict.the-variants.{Refused, Judged}
-use Rattle.verdict.specs.Verdict.{isSolvable}
+use Rattle.verdict.specs.declared.Verdict.the-variants.{Refused}
+use Rattle.verdict.specs.Verdict.{verdictNumber, verdictYes, verdictOpened, verdictGrade, verdictRounds, isSolvable}
 use Rattle.text.specs.Text.{decimal}
 use Rattle.records.specs.Records.{pictureSize}
 
@@ -17,8 +17,10 @@ verdictWord v = cond v (121 ∷ 101 ∷ 115 ∷ 32 ∷ []) (110 ∷ 111 ∷ 32 �
 
 -- `yes 2 0 0` or `refused 1`
 unfoldable pub verdictText : Verdict → List ℕ
-verdictText (Refused r) = (114 ∷ 101 ∷ 102 ∷ 117 ∷ 115 ∷ 101 ∷ 100 ∷ 32 ∷ []) ++ decimal (refusalNumber r)
-verdictText (Judged v opened grade rounds) = verdictWord v ++ (decimal opened ++ (32 ∷ (decimal grade ++ (32 ∷ decimal rounds))))
+verdictText v =
+    cond (eqb (verdictNumber v) 0)
+    (verdictWord (verdictYes v) ++ (decimal (verdictOpened v) ++ (32 ∷ (decimal (verdictGrade v) ++ (32 ∷ decimal (verdictRounds v))))))
+    ((114 ∷ 101 ∷ 102 ∷ 117 ∷ 115 ∷ 101 ∷ 100 ∷ 32 ∷ []) ++ decimal (verdictNumber v))
 
 -- `1 yes 2 0 0` and the end of the line
 unfoldable pub lineText : ℕ → Verdict → List ℕ

@@ -7,11 +7,12 @@ use mathlib.Core.Bool.{Bool, true, false, not, cond, _&&_, _||_}
 use mathlib.Core.List.{List, [], _∷_, _++_}
 use Prim.Native.Nat.{ℕ}
 use native.Mathlib.Omega.{arith}
-use lib.Dec.{leb}
+use lib.Dec.{eqb, leb}
 use borrow.Author.Tests.{not-true, not-false, le-leb}
 use Rattle.lists.specs.Lists.{all}
 use Rattle.lists.proofs.Tests.{Decided, decided, and-left, and-right, or-right}
 use Rattle.refusals.specs.declared.Refusal.{Refusal}
+use Rattle.refusals.specs.declared.Refusal.the-variants.{Size, Length, Cell, Start, Number, Contradiction, NoZero, Block, Table, Mark, Short}
 use Rattle.refusals.specs.declared.Tested.{Tested}
 use Rattle.refusals.specs.declared.Tested.the-variants.{Accepted, Refused}
 use Rattle.refusals.specs.Refusals.{refusalNumber, Test, tested}
@@ -44,6 +45,20 @@ passes-accepted [] h = refl
 passes-accepted (t ∷ ts) h = let p = and-left (t .passes) (all (λ u. u .passes) ts) h in rw p (passes-accepted ts (and-right (t .passes) (all (λ u. u .passes) ts) h))
 
 -- ---- refusal
+
+-- no refusal has the number 0, which is that of an answer
+pub refusal-not-zero : (r : Refusal) → eqb (refusalNumber r) 0 ≡ false
+refusal-not-zero Size = refl
+refusal-not-zero Length = refl
+refusal-not-zero Cell = refl
+refusal-not-zero Start = refl
+refusal-not-zero Number = refl
+refusal-not-zero Contradiction = refl
+refusal-not-zero NoZero = refl
+refusal-not-zero Block = refl
+refusal-not-zero Table = refl
+refusal-not-zero Mark = refl
+refusal-not-zero Short = refl
 
 -- a test of the list fails and gives r, and every test before it passes
 pub record FirstFailing (ts : List Test) (r : Refusal) : Type 0 where

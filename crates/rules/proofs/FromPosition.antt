@@ -10,7 +10,7 @@ use Prim.Native.Nat.{ℕ, _+_, _≤_}
 use native.Mathlib.Omega.{arith}
 use lib.Dec.{ltb, eqb}
 use lib.ListN.{length}
-use borrow.Author.Tests.{eqb-true, eq-eqb, ltb-true, lt-ltb}
+use borrow.Author.Tests.{eqb-true, eq-eqb, ne-eqb, ltb-true, lt-ltb}
 use Rattle.lists.specs.Lists.{count, any, has, nodup}
 use Rattle.lists.proofs.Tests.{same-test, and-left, and-right}
 use Rattle.lists.proofs.Members.{has-not-empty}
@@ -29,30 +29,15 @@ use Rattle.frontier.specs.Frontier.{equationOf, cellsMet, blockOf, frontier}
 use Rattle.frontier.proofs.BlockLaws.{block-equation, source-equation, equation-rearranged, frontier-proper, Origin, equation-origin}
 use Rattle.frontier.proofs.Coverage.{frontier-once}
 use Rattle.rules.specs.Direct.{full, direct}
+use Rattle.rules.specs.AtPosition.{minesWith, fullAt, isMineAt, isContradictoryAt}
 use Rattle.rules.proofs.OrderFree.{isMineOf, onlyThose, tooFew, isSafeOf, isContradictory, direct-contradiction-free, direct-mines-free, direct-safe-free, Alike, SameEquations, same-mine, same-safe, same-contradictory}
 
 -- ---- the tests at a position
 
--- an open cell shows as many as it has closed cells and known mines around it
-abbrev pub fullAt : (ℕ → List ℕ) → List ℕ → ℕ → Bool
-fullAt near p d = eqb (shows p d) (length (closedBeside near p d) + knownBeside near p d)
-
--- such an open cell stands beside the cell c
-abbrev pub isMineAt : (ℕ → List ℕ) → List ℕ → ℕ → Bool
-isMineAt near p c = any (λ d. fullAt near p d && has (closedBeside near p d) c) (sources near p)
-
--- the mines that the direct rule finds around a cell, and the known ones
-abbrev pub minesBeside : (ℕ → List ℕ) → List ℕ → ℕ → ℕ
-minesBeside near p d = count (isMineAt near p) (closedBeside near p d) + knownBeside near p d
-
--- c is none of these, and an open cell beside it shows no more than these
+-- c is no mine by the direct rule, and an open cell beside it shows no more than the known mines and those that the rule finds
 abbrev pub isSafeAt : (ℕ → List ℕ) → List ℕ → ℕ → Bool
 isSafeAt near p c =
-    not (isMineAt near p c) && any (λ d. (not (fullAt near p d) && eqb (shows p d) (minesBeside near p d)) && has (closedBeside near p d) c) (sources near p)
-
--- an open cell shows fewer than these
-abbrev pub isContradictoryAt : (ℕ → List ℕ) → List ℕ → Bool
-isContradictoryAt near p = any (λ d. not (fullAt near p d) && ltb (shows p d) (minesBeside near p d)) (sources near p)
+    not (isMineAt near p c) && any (λ d. (not (fullAt near p d) && eqb (shows p d) (minesWith near p (isMineAt near p) d)) && has (closedBeside near p d) c) (sources near p)
 
 -- a source that passes a test and has c beside it is an open cell that does: nothing else of a source is asked
 pub beside-open : (near : ℕ → List ℕ) (p : List ℕ) (t : ℕ → Bool) (c : ℕ)
@@ -136,17 +121,25 @@ module _ (near : ℕ → List ℕ) (p : List ℕ) (once : (c : ℕ) → nodup (n
       mine-plain c,
       any-map (λ (e : BlockEquation). onlyThose (isMineOf (plainEquations near p)) e && has (e .cells) c) (plainEquation near p) (sources near p),
       any-ext (λ d. onlyThose (isMineOf (plainEquations near p)) (plainEquation near p d) && has (closedBeside near p d) c)
-          (λ d. (not (fullAt near p d) && eqb (shows p d) (minesBeside near p d)) && has (closedBeside near p d) c) (sources near p)
+          (λ d. (not (fullAt near p d) && eqb (shows p d) (minesWith near p (isMineAt near p) d)) && has (closedBeside near p d) c) (sources near p)
           (λ d m. rw (full-plain d, mines-plain d, rest-equal d (8 + count (isMineAt near p) (closedBeside near p d)) (count (isMineAt near p) (closedBeside near p d)) refl)),
     )
+
+    -- an open cell that shows as many as it has closed cells and known mines does not show fewer than some of these are
+    full-not-fewer : (d : ℕ)
+        → (not (fullAt near p d) && ltb (shows p d) (minesWith near p (isMineAt near p) d)) ≡ ltb (shows p d) (minesWith near p (isMineAt near p) d)
+    full-not-fewer d = same-test _ (ltb (shows p d) (minesWith near p (isMineAt near p) d))
+        (and-right (not (fullAt near p d)) (ltb (shows p d) (minesWith near p (isMineAt near p) d)))
+        (λ h. rw (ne-eqb (shows p d) (length (closedBeside near p d) + knownBeside near p d) (λ e.
+        omega (arith, e, ltb-true (shows p d) (minesWith near p (isMineAt near p) d) h, count-le (isMineAt near p) (closedBeside near p d)))) h)
 
     -- there is a contradiction
     contradictory-plain : isContradictory (plainEquations near p) ≡ isContradictoryAt near p
     contradictory-plain =
         any-map (tooFew (isMineOf (plainEquations near p))) (plainEquation near p) (sources near p)
         ∙ any-ext (λ d. tooFew (isMineOf (plainEquations near p)) (plainEquation near p d))
-        (λ d. not (fullAt near p d) && ltb (shows p d) (minesBeside near p d)) (sources near p)
-        (λ d m. rw (full-plain d, mines-plain d, rest-below d (count (isMineAt near p) (closedBeside near p d))))
+        (λ d. ltb (shows p d) (minesWith near p (isMineAt near p) d)) (sources near p)
+        (λ d m. rw (full-plain d, mines-plain d, rest-below d (count (isMineAt near p) (closedBeside near p d))) (full-not-fewer d))
 
     -- ---- the answer of the direct rule
 

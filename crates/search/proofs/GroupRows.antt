@@ -4,7 +4,7 @@
 use mathlib.Core.Path.{_≡_, sym, ap, _∙_}
 use mathlib.Core.Bool.{Bool, true, cond}
 use mathlib.Core.List.{List, [], map, map-map, List·Memᴰ}
-use Prim.Native.Nat.{ℕ, _+_, _≤_, _<_}
+use Prim.Native.Nat.{ℕ, _+_, _<_}
 use native.Mathlib.Nat.{zero-add}
 use native.Mathlib.Omega.{arith}
 use lib.ListN.{length, getD, length-map}
@@ -24,17 +24,12 @@ use Rattle.frontier.proofs.Fitting.{saysIn, Solves}
 use Rattle.groups.specs.Groups.{firsts, groups, sizes, groupsIn}
 use Rattle.groups.proofs.GroupLaws.{groups-many, sizes-long, size-at}
 use Rattle.search.specs.Solutions.{sum, meetsRest, solves, solutions}
+use Rattle.search.specs.TableRows.{SolutionRow}
 use Rattle.search.proofs.Vectors.{within-length, within-read, within-places}
 use Rattle.search.proofs.EquationGroups.{usesGroup, equation-sum, blockGroups}
 use Rattle.search.proofs.ListedSolutions.{in-solutions, solutions-in}
 
 -- ---- the rows of a block
-
--- a number of mines for each group, at most its size, with which each equation has its remainder
-pub record SolutionRow (b : Block) (row : List ℕ) : Type 0 where
-  pub whole : length row ≡ length (firsts b)
-  pub small : (g : ℕ) → g < length (firsts b) → getD row g 0 ≤ getD (sizes b) g 0
-  pub solved : solves b row ≡ true
 
 module _ (b : Block) (proper : Proper b) where
   -- `solutions` has these rows and no others

@@ -24,8 +24,9 @@ use Rattle.groups.specs.Groups.{column, firsts, sizes, groupsIn}
 use Rattle.groups.specs.Grouping.{grouped}
 use Rattle.groups.proofs.GroupLaws.{sizes-long, first-equation}
 use Rattle.search.specs.Solutions.{sum, meetsRest, solves, vectors, weighed, byGroup, solutions}
-use Rattle.search.proofs.Vectors.{withinSizes, within-length, in-vectors, vectors-in, vectors-once, inOrder, in-order-keep, vectors-in-order}
-use Rattle.search.proofs.Orders.{EachOnce, readAt, by-group-length, read-by-group, by-group-of-read, within-by-group, by-weight-each-once}
+use Rattle.search.specs.TableRows.{readAt, inOrder}
+use Rattle.search.proofs.Vectors.{withinSizes, within-length, in-vectors, vectors-in, vectors-once, in-order-keep, vectors-in-order}
+use Rattle.search.proofs.Orders.{EachOnce, by-group-length, read-by-group, by-group-of-read, within-by-group, by-weight-each-once}
 
 -- a negative remainder leaves no solution
 pub negative-none : (b : Block) → grouped b .negative ≡ true → solutions b ≡ []

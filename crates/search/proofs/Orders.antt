@@ -21,6 +21,7 @@ use Rattle.lists.proofs.Among.{joined-reverse}
 use Rattle.lists.proofs.PartedLists.{count-one, parted-rearranged}
 use Rattle.lists.proofs.ReadBack.{range-made}
 use Rattle.search.specs.Solutions.{sum, byWeight, byGroup}
+use Rattle.search.specs.TableRows.{readAt}
 use Rattle.search.specs.Searching.{Ordered, placed}
 use Rattle.search.proofs.Sums.{sum-same}
 use Rattle.search.proofs.Vectors.{withinSizes}
@@ -31,10 +32,6 @@ pub record EachOnce (order : List ℕ) (n : ℕ) : Type 0 where
   pub long : length order ≡ n
   pub below : all (λ g. ltb g n) order ≡ true
   pub once : nodup order ≡ true
-
--- a row's values, read in an order
-abbrev pub readAt : List ℕ → List ℕ → List ℕ
-readAt order row = map (λ (g : ℕ). getD row g 0) order
 
 -- the groups that the search is told of
 pub ordered-each-once : (order : List ℕ) (groups equations : ℕ) (sizes columns : List ℕ) → Ordered order groups equations sizes columns → groups ≤ length order

@@ -30,10 +30,11 @@ use Rattle.groups.specs.Grouping.{Combinable, grouped}
 use Rattle.groups.proofs.GroupLaws.{sizes-long, firsts-some, combinable-proper}
 use Rattle.search.specs.Trees.{branches, tree}
 use Rattle.search.specs.Solutions.{sum, meetsRest, solves, vectors, weighed, byGroup, solutions}
+use Rattle.search.specs.TableRows.{readAt}
 use Rattle.search.specs.Searching.{treeAt, treeFrom}
 use Rattle.search.proofs.Vectors.{within-length, within-read, firstFrom}
 use Rattle.search.proofs.TreeLaws.{addedUp, fills, branches-row-length, tree-row-length, tree-vectors, branches-vectors}
-use Rattle.search.proofs.Orders.{EachOnce, readAt, each-below, by-group-read, by-group-of-read, added-by-group}
+use Rattle.search.proofs.Orders.{EachOnce, each-below, by-group-read, by-group-of-read, added-by-group}
 use Rattle.search.proofs.ReadingGroups.{groups-read, sizes-read, needs-read, needs-long, equation-groups, no-groups-past, searchable}
 use Rattle.search.proofs.ListedSolutions.{valuesIn, values-long, values-within, row-values, solved-rows-once, weighed-each-once, in-solutions, solutions-in, solutions-once}
 

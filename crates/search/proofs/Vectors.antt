@@ -3,7 +3,7 @@
 -- Rests on the laws of ranges and counts. Assumes nothing.
 use mathlib.Core.Path.{_≡_, refl, sym, ap, _∙_}
 use mathlib.Core.Logic.{inl, inr, _≢_}
-use mathlib.Core.Bool.{Bool, true, false, cond, _&&_, _||_}
+use mathlib.Core.Bool.{Bool, true, false, cond, _&&_}
 use mathlib.Core.List.{List, [], _∷_, _++_, map, List·Memᴰ, List·Memᴰ·head, List·Memᴰ·tail, List·Memᴰ·eq-of-singleton, Memᴰ·map, Memᴰ·of-map}
 use Prim.Native.Nat.{ℕ, zero, suc, _+_, _≤_, _<_}
 use native.Mathlib.Omega.{arith}
@@ -22,6 +22,7 @@ use Rattle.lists.proofs.TurnedRound.{keep-joined, joined-keep}
 use Rattle.lists.proofs.PlacesAndRanges.{range-part}
 use Rattle.lists.proofs.PartedLists.{none-kept}
 use Rattle.search.specs.Solutions.{vectors}
+use Rattle.search.specs.TableRows.{precedes, inOrder}
 
 -- a value for each size, none above its size
 abbrev pub withinSizes : List ℕ → List ℕ → Bool
@@ -167,17 +168,6 @@ vectors-first v k n ns h =
         ∙ ap (map (λ (row : List ℕ). x ∷ row)) (none-kept (λ row. t x) (vectors ns) (λ row _. e))))
 
 -- ---- lexicographic order
-
--- a row comes before another: where they first differ it has the smaller value
-abbrev pub precedes : List ℕ → List ℕ → Bool
-precedes [] other = false
-precedes (v ∷ row) [] = false
-precedes (v ∷ row) (w ∷ other) = ltb v w || (eqb v w && precedes row other)
-
--- rows in order: each comes before all that follow
-abbrev pub inOrder : List (List ℕ) → Bool
-inOrder [] = true
-inOrder (row ∷ rows) = all (precedes row) rows && inOrder rows
 
 in-order-append : (k l : List (List ℕ)) → inOrder k ≡ true → inOrder l ≡ true → ((r s : List ℕ) → List·Memᴰ r k → List·Memᴰ s l → precedes r s ≡ true)
     → inOrder (k ++ l) ≡ true

@@ -2,6 +2,7 @@
 -- enumeration of a block, and at a position
 pub mod EnumerationLaws
 pub mod Completeness
+pub mod NoSolution
 -- on a board of rows and columns
 pub mod BoardRules
 -- what the search's answers show of each group

@@ -28,9 +28,10 @@ use Rattle.groups.specs.Grouping.{Combinable, grouped}
 use Rattle.groups.proofs.GroupLaws.{combinable-proper}
 use Rattle.search.specs.Trees.{tree}
 use Rattle.search.specs.Solutions.{byGroup, solutions}
+use Rattle.search.specs.TableRows.{readAt}
 use Rattle.search.specs.Searching.{Ordered, Kept, unset, treeAt, treeFrom}
 use Rattle.search.proofs.Vectors.{within-read}
-use Rattle.search.proofs.Orders.{EachOnce, ordered-each-once, readAt, place-read, values-by-group}
+use Rattle.search.proofs.Orders.{EachOnce, ordered-each-once, place-read, values-by-group}
 use Rattle.search.proofs.OrderedGroups.{Group, group-at, group-below, unset-more}
 use Rattle.search.proofs.HeldValues.{from-in-tree, tree-in-from}
 use Rattle.search.proofs.ListedSolutions.{solutions-in}

@@ -94,7 +94,7 @@ table-within b t = go (leb (length (solutions b) * length (firsts b)) (length t)
     go : (c : Bool) → leb (length (solutions b) * length (firsts b)) (length t) ≡ c
         → RowsWithin (cond c listed (refused refusal.Table t) .answer) (cond c listed (refused refusal.Table t) .table)
     go true e = rw length-sets (leb-true _ _ e)
-    go false e = tt
+    go false e = omega arith
 
 asked-within : (bs : List Block) (n : ℕ) (t : List ℕ) → RowsWithin (blockAsked bs n t .answer) (blockAsked bs n t .table)
 unfolding blockAsked
@@ -105,7 +105,7 @@ asked-within bs n t = go (ltb n (length bs))
 
     go : (c : Bool) → RowsWithin (cond c asked (refused refusal.Block t) .answer) (cond c asked (refused refusal.Block t) .table)
     go true = table-within _ t
-    go false = tt
+    go false = omega arith
 
 module _ (rows columns : ℕ) (p : List ℕ) (n : ℕ) (t : List ℕ) where
   call-within : RowsWithin (calAllSolution rows columns p n t .answer) (calAllSolution rows columns p n t .table)
@@ -117,7 +117,7 @@ module _ (rows columns : ℕ) (p : List ℕ) (n : ℕ) (t : List ℕ) where
 
       go : (x : Tested) → RowsWithin (afterTests x asked t .answer) (afterTests x asked t .table)
       go test.Accepted = asked-within (frontier (neighbours rows columns) p) n t
-      go (test.Refused r) = tt
+      go (test.Refused r) = omega arith
 
   pub seen-within : {a : TableAnswer} {after : List ℕ} → tableSeen a after ≡ calAllSolution rows columns p n t → RowsWithin a after
   seen-within e = subst (λ (w : TableSeen). RowsWithin (w .answer) (w .table)) (sym e) call-within

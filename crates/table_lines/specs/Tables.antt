@@ -3,14 +3,14 @@
 use mathlib.Core.Bool.{cond}
 use mathlib.Core.List.{List, [], _∷_, _++_, map}
 use Prim.Native.Nat.{ℕ, _*_, _≤_}
+use lib.Dec.{eqb}
 use lib.ListN.{length, take, replicate}
 use Rattle.lists.specs.Lists.{range, joined}
 use Rattle.refusals.specs.declared.Tested.{Tested}
 use Rattle.refusals.specs.declared.Tested.the-variants as test
 use Rattle.refusals.specs.Refusals.{refusalNumber}
 use Rattle.tables.specs.declared.TableAnswer.{TableAnswer}
-use Rattle.tables.specs.declared.TableAnswer.the-variants.{Refused, Listed}
-use Rattle.tables.specs.Tables.{TableSeen, rowAt, calAllSolution}
+use Rattle.tables.specs.Tables.{tableNumber, tableSolutions, tableGroups, TableSeen, rowAt, calAllSolution}
 use Rattle.text.specs.Text.{decimal}
 use Rattle.show.specs.Cells.{cellsText}
 use Rattle.show.specs.Refusals.{refusedText}
@@ -53,13 +53,14 @@ noTableText n = (32 ∷ 91 ∷ refusedText n) ++ (93 ∷ [])
 
 -- ` [groups 3 solutions 2 rows 0 1 0 / 1 0 1]`
 unfoldable pub tableText : TableAnswer → List ℕ → List ℕ
-tableText (Refused r) table = noTableText (refusalNumber r)
-tableText (Listed s g) table = (32 ∷ 91 ∷ (groupsText g ++ (solutionsText s ++ listedText (rowsOf table g s)))) ++ (93 ∷ [])
+tableText a table =
+    cond (eqb (tableNumber a) 0)
+    ((32 ∷ 91 ∷ (groupsText (tableGroups a) ++ (solutionsText (tableSolutions a) ++ listedText (rowsOf table (tableGroups a) (tableSolutions a))))) ++ (93 ∷ []))
+    (noTableText (tableNumber a))
 
 -- the rows that are answered stand inside the table
 abbrev pub RowsWithin : TableAnswer → List ℕ → Type 0
-RowsWithin (Refused r) table = Unit {0}
-RowsWithin (Listed s g) table = s * g ≤ length table
+RowsWithin a table = tableSolutions a * tableGroups a ≤ length table
 
 -- what the caller sees, as text
 abbrev pub seenText : TableSeen → List ℕ

@@ -7,6 +7,6 @@ pub mod TableRoom
 pub mod WrittenTable
 -- a block of a set, by its number
 pub mod AskedBlock
--- what a caller has, from the contract alone
+-- what specs/Listed.antt says of the call
 pub mod RowsOfOneWidth
 pub mod TableCalls

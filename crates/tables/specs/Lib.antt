@@ -1,2 +1,3 @@
--- The solution table as a call.
+-- The solution table as a call, and what it means to a caller.
 pub mod Tables
+pub mod Listed

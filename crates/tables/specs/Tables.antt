@@ -1,7 +1,7 @@
 -- cal_all_solution as a call on a position (document 01, "Solution table" and refusals 8 and 9): the table of one block of the fresh frontier. Its rows stand at the
 -- front of the lent table, one after another, a byte for each group; the bytes past the last row keep their values, and a refusal leaves all. Assumes nothing.
 use mathlib.Core.Bool.{cond}
-use mathlib.Core.List.{List, []}
+use mathlib.Core.List.{List, [], _∷_}
 use Prim.Native.Nat.{ℕ, _*_}
 use lib.Dec.{leb, ltb}
 use lib.ListN.{length, getD, take, drop}
@@ -12,6 +12,7 @@ use Rattle.refusals.specs.declared.Refusal.{Refusal}
 use Rattle.refusals.specs.declared.Refusal.the-variants as refusal
 use Rattle.refusals.specs.declared.Tested.{Tested}
 use Rattle.refusals.specs.declared.Tested.the-variants as test
+use Rattle.refusals.specs.Refusals.{refusalNumber}
 use Rattle.refusals.specs.Tests.{positionTested}
 use Rattle.blocks.specs.Blocks.{Block}
 use Rattle.frontier.specs.Frontier.{frontier}
@@ -19,6 +20,23 @@ use Rattle.groups.specs.Groups.{firsts}
 use Rattle.search.specs.Solutions.{solutions}
 use Rattle.tables.specs.declared.TableAnswer.{TableAnswer}
 use Rattle.tables.specs.declared.TableAnswer.the-variants.{Refused, Listed}
+
+-- document 01's number of an answer: 0, or the refusal's
+abbrev pub tableNumber : TableAnswer → ℕ
+tableNumber (Refused r) = refusalNumber r
+tableNumber (Listed s g) = 0
+
+-- and its values: solutions, groups; a refusal has none
+abbrev pub tableValues : TableAnswer → List ℕ
+tableValues (Refused r) = []
+tableValues (Listed s g) = s ∷ g ∷ []
+
+-- the values by their names
+abbrev pub tableSolutions : TableAnswer → ℕ
+tableSolutions a = getD (tableValues a) 0 0
+
+abbrev pub tableGroups : TableAnswer → ℕ
+tableGroups a = getD (tableValues a) 1 0
 
 -- what the caller sees after the call: the answer, and the lent table
 pub record TableSeen : Type 0 where

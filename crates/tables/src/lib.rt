@@ -1,6 +1,6 @@
 // cal_all_solution: the solution table of one block of a position's frontier, a row for each solution and in it a byte for each group, in document 01's order
 // of weights. Whether the rows fit the lent table is known before a byte is written: solutions are spent, not counted, from one more than there is room
-// for, so the first walk ends as soon as the table is known to be too short. specs/Tables.antt says what a caller sees.
+// for, so the first walk ends as soon as the table is known to be too short. specs/Tables.antt says what a caller sees, specs/Listed.antt what that means.
 use blocks::BlockSet;
 use blocks::Bounds;
 use blocks::bounds_at;
@@ -23,7 +23,8 @@ ghost use Rattle.blocks.specs.BlockSets.{blocksOf, Whole};
 ghost use Rattle.blocks.specs.Places.{Arrays, blockFrom};
 ghost use Rattle.groups.specs.Grouping.{Combinable};
 ghost use Rattle.search.specs.Searching.{Ordered, State, treeAt};
-ghost use Rattle.tables.specs.Tables.{tableSeen, tableOf, blockAsked, calAllSolution};
+ghost use Rattle.tables.specs.Tables.{tableNumber, tableSolutions, tableGroups, tableSeen, tableOf, blockAsked, calAllSolution};
+ghost use Rattle.tables.specs.Listed.{TableCall};
 
 // What the call answers: a refusal, or how many solutions and groups the block has.
 pub enum TableAnswer {
@@ -133,6 +134,8 @@ pub fn cal_all_solution(
     table: &mut [u8],
 ) -> TableAnswer
     ensures { λ r. ⌜ tableSeen r (now (table .exit)) ≡ calAllSolution rows columns (now (position .entry)) block (now (table .entry)) ⌝ }
+    ensures listed { λ r. ⌜ TableCall rows columns (now (position .entry)) block (now (table .entry))
+        (tableNumber r) (tableSolutions r) (tableGroups r) (now (table .exit)) ⌝ }
 {
     match test_position(rows, columns, position) {
         Tested::Refused(refusal) => TableAnswer::Refused(refusal),

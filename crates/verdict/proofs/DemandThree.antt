@@ -1,19 +1,21 @@
 -- Demand 3 of what the verdict answers, whole: for every board that the tests accept with a safe start, and every list of asks, since the definition of the
 -- answer is the passes over the three rules, which are sound and complete. Rests on `judge-demand-3` of the crate fitting and on the three rules' laws of the
 -- crate solutions. Assumes nothing.
-use mathlib.Core.Path.{_≡_, ap, _∙_}
+use mathlib.Core.Path.{_≡_, refl, ap, _∙_}
 use mathlib.Core.Logic.{_≢_}
 use mathlib.Core.List.{List}
 use Prim.Native.Nat.{ℕ}
 use lib.ListN.{length}
-use borrow.Author.Tests.{ne-eqb}
+use borrow.Author.Tests.{ne-eqb, eqb-false}
+use Rattle.lists.proofs.Tests.{bit-is-one}
 use Rattle.grid.specs.Cells.{cellOf}
 use Rattle.grid.specs.Window.{neighbours}
 use Rattle.refusals.specs.declared.Refusal.{Refusal}
 use Rattle.refusals.specs.declared.Tested.the-variants.{Accepted, Refused as TestRefused}
 use Rattle.refusals.specs.Tests.{boardTested, startCell}
 use Rattle.refusals.proofs.Accepted.{accepted-board}
-use Rattle.refusals.proofs.FirstFailure.{not-both}
+use Rattle.refusals.specs.Refusals.{refusalNumber}
+use Rattle.refusals.proofs.FirstFailure.{not-both, refusal-not-zero}
 use Rattle.fitting.specs.Passes.{Ending, judge}
 use Rattle.fitting.specs.Demand.{Demand3, picture, opened}
 use Rattle.fitting.proofs.Admitted.{tested-accepted}
@@ -23,6 +25,11 @@ use Rattle.solutions.proofs.BoardRules.{board-rules-sound, board-rules-complete
 use Rattle.verdict.specs.declared.Verdict.{Verdict}
 use Rattle.verdict.specs.declared.Verdict.the-variants.{Refused}
 use Rattle.verdict.specs.Verdict.{VerdictSeen, verdictSeen, endSeen, judgedFrom, isSolvable, MeetsDemand3}
+
+-- a refusal doesn't meet it
+pub refusal-never-meets : {P : Type 0} {near : ℕ → List ℕ} {b : List ℕ} {s : ℕ} {v : Verdict} {r : Refusal} {shown : List ℕ} → v ≡ Refused r
+    → MeetsDemand3 near b s v shown → P
+refusal-never-meets {r = r} is (answered, _) = absurd (eqb-false (refusalNumber r) 0 (refusal-not-zero r) (rw is at answered))
 
 module _ (rows columns row column : ℕ) (b shown : List ℕ) where
   -- the cell that the start means
@@ -66,4 +73,4 @@ module _ (rows columns row column : ℕ) (b shown : List ℕ) where
           → MeetsDemand3 (neighbours rows columns) b (startCell columns row column b) r after
       answer-demand-3 r after e =
           let told = e ∙ passes-seen in
-          rw (ap (λ (w : VerdictSeen). w .answer) told, ap (λ (w : VerdictSeen). w .shown) told) passes-demand-3
+          rw (ap (λ (w : VerdictSeen). w .answer) told, ap (λ (w : VerdictSeen). w .shown) told) (refl, rw (bit-is-one (passed .yes)) passes-demand-3)

@@ -1,20 +1,46 @@
 -- The verdict as a caller sees it (document 01, "Verdict, deductions, table" and "The three rules"): refusals 1, 2, 3, 4, 5 and 7; a start on a mine is judged
 -- no, with nothing opened; else the passes over the three rules, and the picture of the position that they end with. Assumes nothing.
-use mathlib.Core.Bool.{false, cond}
-use mathlib.Core.List.{List}
+use mathlib.Core.Path.{_≡_}
+use mathlib.Core.Bool.{Bool, false, cond}
+use mathlib.Core.List.{List, [], _∷_}
 use Prim.Native.Nat.{ℕ}
 use lib.Dec.{eqb}
-use lib.ListN.{length, replicate}
+use lib.ListN.{length, getD, replicate}
+use Rattle.lists.specs.Lists.{bit}
 use Rattle.grid.specs.Cells.{cellOf}
 use Rattle.grid.specs.Window.{neighbours}
 use Rattle.refusals.specs.declared.Tested.{Tested}
 use Rattle.refusals.specs.declared.Tested.the-variants.{Accepted, Refused as TestRefused}
+use Rattle.refusals.specs.Refusals.{refusalNumber}
 use Rattle.refusals.specs.Tests.{boardTested, startCell}
 use Rattle.fitting.specs.Passes.{Ending, judge}
 use Rattle.fitting.specs.Demand.{Demand3, picture, opened}
 use Rattle.solutions.specs.ThreeRules.{threeRules}
 use Rattle.verdict.specs.declared.Verdict.{Verdict}
 use Rattle.verdict.specs.declared.Verdict.the-variants.{Refused, Judged}
+
+-- document 01's number of an answer: 0, or the refusal's
+abbrev pub verdictNumber : Verdict → ℕ
+verdictNumber (Refused r) = refusalNumber r
+verdictNumber (Judged answer n grade rounds) = 0
+
+-- and its values: 1 for yes or 0 for no, opened cells, grade, rounds; a refusal has none
+abbrev pub verdictValues : Verdict → List ℕ
+verdictValues (Refused r) = []
+verdictValues (Judged answer n grade rounds) = bit answer ∷ n ∷ grade ∷ rounds ∷ []
+
+-- the values by their names
+abbrev pub verdictYes : Verdict → Bool
+verdictYes v = eqb (getD (verdictValues v) 0 0) 1
+
+abbrev pub verdictOpened : Verdict → ℕ
+verdictOpened v = getD (verdictValues v) 1 0
+
+abbrev pub verdictGrade : Verdict → ℕ
+verdictGrade v = getD (verdictValues v) 2 0
+
+abbrev pub verdictRounds : Verdict → ℕ
+verdictRounds v = getD (verdictValues v) 3 0
 
 -- what the caller sees after the call: the answer, and the lent picture
 pub record VerdictSeen : Type 0 where
@@ -43,5 +69,4 @@ isSolvable rows columns row column b shown =
 
 -- demand 3 of an answer that isn't a refusal
 abbrev pub MeetsDemand3 : (ℕ → List ℕ) → List ℕ → ℕ → Verdict → List ℕ → Type 0
-MeetsDemand3 near b s (Judged answer n grade rounds) shown = Demand3 near b s answer n shown
-MeetsDemand3 near b s (Refused r) shown = ⊥
+MeetsDemand3 near b s v shown = (verdictNumber v ≡ 0) × Demand3 near b s (verdictYes v) (verdictOpened v) shown

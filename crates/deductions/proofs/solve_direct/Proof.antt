@@ -1,5 +1,5 @@
 -- `solve_direct` meets its contract: a refusal by the tests ends the call; else the frontier is read, the direct rule runs on it and its answer is handed to the
--- caller. Rests on Deductions and on the contracts of the calls. Assumes nothing.
+-- caller; the other clauses are laws of the call, from this equation. Rests on Deductions, SoundCalls, Contradictions and the contracts of the calls. Assumes nothing.
 use mathlib.Core.Path.{_≡_, sym, _∙_}
 use borrow.Author.Needs.{needs}
 use lib.ListN.{length}
@@ -11,6 +11,8 @@ use Rattle.rules.specs.Direct.{direct}
 use Rattle.rules.proofs.FrontierReady.{read-ready}
 use Rattle.deductions.specs.Answers.{solveDirect}
 use Rattle.deductions.proofs.Deductions.{direct-sound-on, tests-refuse, rule-held, rule-seen}
+use Rattle.deductions.proofs.SoundCalls.{direct-call-sound}
+use Rattle.deductions.proofs.Contradictions.{direct-refuses-exactly}
 use Rattle.deductions.proofs.solve_direct.Statement.{statement}
 use Rattle.deductions.proofs.solve_direct.Tie as tie
 
@@ -70,9 +72,10 @@ returns c =
     let read = ran .before in
     let accepts = read .before .before in
     let a = accepts .before .before .before .before .before .before .before .args in
-    gave .give-answer .ensures
+    let is = gave .give-answer .ensures
     ∙ rule-seen direct (a .rows) (a .columns) (a .position .now) (a .safe .now) (a .mines .now) (tests accepts) (read .read-blocks .result) (read .read-blocks .ensures)
-    (ran .direct-rule .result) (ran .direct-rule .ensures .0) (ran .direct-rule .ensures .1)
+    (ran .direct-rule .result) (ran .direct-rule .ensures .0) (ran .direct-rule .ensures .1) in
+    (is, (direct-call-sound (a .rows) (a .columns) (a .position .now) (a .safe .now) (a .mines .now) _ _ _ _ is, direct-refuses-exactly (a .rows) (a .columns) (a .position .now) (a .safe .now) (a .mines .now) _ _ _ _ is))
 
 same-length-4 : tie.Need-same-length-4
 same-length-4 c = search needs
@@ -83,8 +86,9 @@ returns-2 c =
     let told = c .before .before .refusal .given in
     let tested = c .before .before .before .before in
     let a = tested .before .before .before .before .before .args in
-    rw (c .refused .ensures)
-    (tests-refuse direct (a .rows) (a .columns) (a .position .now) (a .safe .now) (a .mines .now) (told .0 .0) (sym (tested .test-deduction .ensures) ∙ told .1))
+    let is = tests-refuse direct (a .rows) (a .columns) (a .position .now) (a .safe .now) (a .mines .now) (told .0 .0) (sym (tested .test-deduction .ensures) ∙ told .1)
+    (c .refused .result) (c .refused .ensures) in
+    (is, (direct-call-sound (a .rows) (a .columns) (a .position .now) (a .safe .now) (a .mines .now) _ _ _ _ is, direct-refuses-exactly (a .rows) (a .columns) (a .position .now) (a .safe .now) (a .mines .now) _ _ _ _ is))
 
 pub solve-direct-spec : {M : Type 1} → statement M
 solve-direct-spec =

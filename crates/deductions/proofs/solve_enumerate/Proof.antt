@@ -1,5 +1,5 @@
 -- `solve_enumerate` meets its contract: a refusal by the tests ends the call; else the frontier is read, enumeration runs on it and its answer is handed to the
--- caller. Rests on Deductions and on the contracts of the calls. Assumes nothing.
+-- caller; the other clauses are the law of the call, from this equation. Rests on Deductions, EnumerationCalls, Contradictions and the contracts of the calls. Assumes nothing.
 use mathlib.Core.Path.{_≡_, sym, _∙_}
 use borrow.Author.Needs.{needs}
 use lib.ListN.{length}
@@ -11,7 +11,8 @@ use Rattle.groups.proofs.FrontierBlocks.{read-combinable}
 use Rattle.solutions.specs.Enumeration.{enumerated}
 use Rattle.deductions.specs.Answers.{solveEnumerate}
 use Rattle.deductions.proofs.Deductions.{tests-refuse, rule-held, rule-seen}
-use Rattle.deductions.proofs.EnumerationCalls.{enumeration-sound-on}
+use Rattle.deductions.proofs.EnumerationCalls.{enumeration-sound-on, enumerate-call}
+use Rattle.deductions.proofs.Contradictions.{enumerate-refuses-exactly}
 use Rattle.deductions.proofs.solve_enumerate.Statement.{statement}
 use Rattle.deductions.proofs.solve_enumerate.Tie as tie
 
@@ -71,9 +72,11 @@ returns c =
     let read = ran .before in
     let accepts = read .before .before in
     let a = accepts .before .before .before .before .before .before .before .args in
-    gave .give-answer .ensures
+    let is = gave .give-answer .ensures
     ∙ rule-seen enumerated (a .rows) (a .columns) (a .position .now) (a .safe .now) (a .mines .now) (tests accepts) (read .read-blocks .result) (read .read-blocks .ensures)
-    (ran .enumerate-rule .result) (ran .enumerate-rule .ensures .0) (ran .enumerate-rule .ensures .1)
+    (ran .enumerate-rule .result) (ran .enumerate-rule .ensures .0) (ran .enumerate-rule .ensures .1) in
+    let meant = enumerate-call (a .rows) (a .columns) (a .position .now) (a .safe .now) (a .mines .now) _ _ _ _ is in
+    (is, (meant .0, (meant .1, enumerate-refuses-exactly (a .rows) (a .columns) (a .position .now) (a .safe .now) (a .mines .now) _ _ _ _ is)))
 
 same-length-4 : tie.Need-same-length-4
 same-length-4 c = search needs
@@ -84,8 +87,10 @@ returns-2 c =
     let told = c .before .before .refusal .given in
     let tested = c .before .before .before .before in
     let a = tested .before .before .before .before .before .args in
-    rw (c .refused .ensures)
-    (tests-refuse enumerated (a .rows) (a .columns) (a .position .now) (a .safe .now) (a .mines .now) (told .0 .0) (sym (tested .test-deduction .ensures) ∙ told .1))
+    let is = tests-refuse enumerated (a .rows) (a .columns) (a .position .now) (a .safe .now) (a .mines .now) (told .0 .0) (sym (tested .test-deduction .ensures) ∙ told .1)
+    (c .refused .result) (c .refused .ensures) in
+    let meant = enumerate-call (a .rows) (a .columns) (a .position .now) (a .safe .now) (a .mines .now) _ _ _ _ is in
+    (is, (meant .0, (meant .1, enumerate-refuses-exactly (a .rows) (a .columns) (a .position .now) (a .safe .now) (a .mines .now) _ _ _ _ is)))
 
 pub solve-enumerate-spec : {M : Type 1} → statement M
 solve-enumerate-spec =

@@ -1,5 +1,5 @@
 -- `solve_minus` meets its contract: a refusal by the tests ends the call; else the frontier is read, the subtraction rule runs on it and its answer is handed to the
--- caller. Rests on Deductions and on the contracts of the calls. Assumes nothing.
+-- caller; the other clauses are laws of the call, from this equation. Rests on Deductions, SoundCalls, Contradictions and the contracts of the calls. Assumes nothing.
 use mathlib.Core.Path.{_≡_, sym, _∙_}
 use borrow.Author.Needs.{needs}
 use lib.ListN.{length}
@@ -11,6 +11,8 @@ use Rattle.rules.proofs.FrontierReady.{read-ready}
 use Rattle.subtraction.specs.Minus.{subtraction}
 use Rattle.deductions.specs.Answers.{solveMinus}
 use Rattle.deductions.proofs.Deductions.{subtraction-sound-on, tests-refuse, rule-held, rule-seen}
+use Rattle.deductions.proofs.SoundCalls.{minus-call-sound}
+use Rattle.deductions.proofs.Contradictions.{minus-refuses-only}
 use Rattle.deductions.proofs.solve_minus.Statement.{statement}
 use Rattle.deductions.proofs.solve_minus.Tie as tie
 
@@ -70,9 +72,10 @@ returns c =
     let read = ran .before in
     let accepts = read .before .before in
     let a = accepts .before .before .before .before .before .before .before .args in
-    gave .give-answer .ensures
+    let is = gave .give-answer .ensures
     ∙ rule-seen subtraction (a .rows) (a .columns) (a .position .now) (a .safe .now) (a .mines .now) (tests accepts) (read .read-blocks .result) (read .read-blocks .ensures)
-    (ran .minus-rule .result) (ran .minus-rule .ensures .0) (ran .minus-rule .ensures .1)
+    (ran .minus-rule .result) (ran .minus-rule .ensures .0) (ran .minus-rule .ensures .1) in
+    (is, (minus-call-sound (a .rows) (a .columns) (a .position .now) (a .safe .now) (a .mines .now) _ _ _ _ is, minus-refuses-only (a .rows) (a .columns) (a .position .now) (a .safe .now) (a .mines .now) _ _ _ _ is))
 
 same-length-4 : tie.Need-same-length-4
 same-length-4 c = search needs
@@ -83,8 +86,9 @@ returns-2 c =
     let told = c .before .before .refusal .given in
     let tested = c .before .before .before .before in
     let a = tested .before .before .before .before .before .args in
-    rw (c .refused .ensures)
-    (tests-refuse subtraction (a .rows) (a .columns) (a .position .now) (a .safe .now) (a .mines .now) (told .0 .0) (sym (tested .test-deduction .ensures) ∙ told .1))
+    let is = tests-refuse subtraction (a .rows) (a .columns) (a .position .now) (a .safe .now) (a .mines .now) (told .0 .0) (sym (tested .test-deduction .ensures) ∙ told .1)
+    (c .refused .result) (c .refused .ensures) in
+    (is, (minus-call-sound (a .rows) (a .columns) (a .position .now) (a .safe .now) (a .mines .now) _ _ _ _ is, minus-refuses-only (a .rows) (a .columns) (a .position .now) (a .safe .now) (a .mines .now) _ _ _ _ is))
 
 pub solve-minus-spec : {M : Type 1} → statement M
 solve-minus-spec =

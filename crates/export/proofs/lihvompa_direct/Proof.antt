@@ -1,5 +1,7 @@
--- `export::lihvompa_direct` meets its contract: it returns what `solve_direct` answers. Rests on the law of a returned rule, of `Returning`. Assumes nothing.
+-- `export::lihvompa_direct` meets its contract: it returns what `solve_direct` answers. What that means
+-- holds of the counts where there is room for both. Rests on the law of a returned rule, of `Returning`, and on `CountedCalls`. Assumes nothing.
 use Rattle.export.proofs.Returning.{deduction-returned}
+use Rattle.export.proofs.CountedCalls.{returned-number, returned-sound}
 use borrow.Author.Needs.{needs}
 use Rattle.export.proofs.lihvompa_direct.Statement.{statement}
 use Rattle.export.proofs.lihvompa_direct.Tie as tie
@@ -25,7 +27,15 @@ same-length-4 c = search needs
 returns : tie.Need-returns
 returns c =
     let put = c .before .before in
-    deduction-returned _ (put .before .before .before .before .before .before .before .before .solve-direct .ensures) (put .put-deduction .ensures)
+    let asked = put .before .before .before .before .before .before .before .before in
+    let counts = asked .before .before .before .before .before .before .before .before .args .counts .now in
+    let told = put .put-deduction .ensures in (
+      deduction-returned counts (asked .solve-direct .ensures .0) told,
+      (
+        λ room. returned-sound _ _ _ counts told room (asked .solve-direct .ensures .1 .0),
+        rw (returned-number _ _ _ counts told) (asked .solve-direct .ensures .1 .1),
+      ),
+    )
 
 pub lihvompa-direct-spec : {M : Type 1} → statement M
 lihvompa-direct-spec =

@@ -2,7 +2,7 @@
 use mathlib.Core.Path.{refl}
 use Rattle.patterns.specs.declared.PatternAnswer.{PatternAnswer}
 use Rattle.export.specs.Returned.{patternReturned}
-use Rattle.export.proofs.Returning.{by-form, one-laid, refusal-returned, acceptance-returned}
+use Rattle.export.proofs.Returning.{by-form, none-laid, one-laid, values-returned}
 use borrow.Author.Needs.{needs}
 use Rattle.export.proofs.lihvompa_pattern.Statement.{statement}
 use Rattle.export.proofs.lihvompa_pattern.Tie as tie
@@ -34,7 +34,7 @@ returns c =
     let asked = c .before .before .before .before in
     let counts = asked .before .before .before .args .counts .now in
     by-form (λ (a : PatternAnswer). patternReturned a counts) (asked .unsolvable-structure .ensures) (c .before .before .answer .given .1)
-    (refusal-returned _ _ refl (c .refusal-number .ensures))
+    (values-returned (c .refusal-number .ensures) (none-laid _))
 
 same-length : tie.Need-same-length
 same-length c = search needs
@@ -47,7 +47,7 @@ returns-2 c =
     let asked = told .before .before in
     let counts = asked .before .before .before .args .counts .now in
     by-form (λ (a : PatternAnswer). patternReturned a counts) (asked .unsolvable-structure .ensures) (told .enum-told .given .1)
-    (acceptance-returned _ _ refl (one-laid _ _ (put .put-count .ensures)))
+    (values-returned refl (one-laid _ _ (put .put-count .ensures)))
 
 same-length-2 : tie.Need-same-length-2
 same-length-2 c = search needs
@@ -60,7 +60,7 @@ returns-3 c =
     let asked = told .before .before in
     let counts = asked .before .before .before .args .counts .now in
     by-form (λ (a : PatternAnswer). patternReturned a counts) (asked .unsolvable-structure .ensures) (told .enum-told2 .given .1)
-    (acceptance-returned _ _ refl (one-laid _ _ (put .put-count2 .ensures)))
+    (values-returned refl (one-laid _ _ (put .put-count2 .ensures)))
 
 pub lihvompa-pattern-spec : {M : Type 1} → statement M
 lihvompa-pattern-spec =

@@ -1,8 +1,8 @@
 -- `export::lihvompa_verdict` meets its contract, by the form of the answer of `is_solvable`: a refusal is its number, a verdict four counts stored one after another.
 -- Demand 3 is that of `is_solvable`, of the first two counts. Rests on `Returning` and `CountedVerdict`. Assumes nothing.
 use mathlib.Core.Path.{refl}
-use Rattle.export.specs.Returned.{judgedReturned}
-use Rattle.export.proofs.Returning.{four-laid, refusal-returned, acceptance-returned, verdict-returned}
+use Rattle.verdict.proofs.DemandThree.{refusal-never-meets}
+use Rattle.export.proofs.Returning.{none-laid, four-laid, values-returned, verdict-returned}
 use Rattle.export.proofs.CountedVerdict.{counted-demand-3}
 use borrow.Author.Needs.{needs}
 use Rattle.export.proofs.lihvompa_verdict.Statement.{statement}
@@ -39,12 +39,11 @@ same-length : tie.Need-same-length
 same-length c = search needs
 
 returns : tie.Need-returns
-unfolding judgedReturned
 returns c =
     let told = c .before .before in
     let asked = told .before .before .before .before in (
-      verdict-returned _ (asked .is-solvable .ensures .0) (told .verdict .given .1) (refusal-returned _ _ refl (c .refusal-number .ensures)),
-      λ accepted safe room. absurd (rw (told .verdict .given .1) at (asked .is-solvable .ensures .1 accepted safe)),
+      verdict-returned _ (asked .is-solvable .ensures .0) (told .verdict .given .1) (values-returned (c .refusal-number .ensures) (none-laid _)),
+      λ accepted safe room. refusal-never-meets (told .verdict .given .1) (asked .is-solvable .ensures .1 accepted safe),
     )
 
 same-length-2 : tie.Need-same-length-2
@@ -54,7 +53,6 @@ same-length-3 : tie.Need-same-length-3
 same-length-3 c = search needs
 
 returns-2 : tie.Need-returns-2
-unfolding judgedReturned
 returns-2 c =
     let fourth = c .before .before in
     let third = fourth .before .before .before .before in
@@ -65,7 +63,7 @@ returns-2 c =
     let counts = asked .before .before .before .before .before .args .counts .now in
     let stored = four-laid counts _ _ _ _ (rw (first .before .bit .ensures) at (first .put-count .ensures)) (second .put-count2 .ensures)
     (third .put-count3 .ensures) (fourth .put-count4 .ensures) in (
-      verdict-returned counts (asked .is-solvable .ensures .0) (told .verdict2 .given .1) (acceptance-returned _ counts refl stored),
+      verdict-returned counts (asked .is-solvable .ensures .0) (told .verdict2 .given .1) (values-returned refl stored),
       λ accepted safe room. counted-demand-3 counts (told .verdict2 .given .1) (asked .is-solvable .ensures .1 accepted safe) stored room,
     )
 

@@ -33,7 +33,7 @@ same-length-3 c = search needs
 
 returns : tie.Need-returns
 unfolding called
-returns c = rw (c .before .before .before .before .before .before .before .before .before .before .enum-told .given .1) (c .before .before .before .before .before .before .solve-direct .ensures)
+returns c = rw (c .before .before .before .before .before .before .before .before .before .before .enum-told .given .1) (c .before .before .before .before .before .before .solve-direct .ensures .0)
 
 same-length-4 : tie.Need-same-length-4
 same-length-4 c = search needs
@@ -46,7 +46,7 @@ same-length-6 c = search needs
 
 returns-2 : tie.Need-returns-2
 unfolding called
-returns-2 c = rw (c .before .before .before .before .before .before .before .before .before .before .enum-told2 .given .1) (c .before .before .before .before .before .before .solve-minus .ensures)
+returns-2 c = rw (c .before .before .before .before .before .before .before .before .before .before .enum-told2 .given .1) (c .before .before .before .before .before .before .solve-minus .ensures .0)
 
 same-length-7 : tie.Need-same-length-7
 same-length-7 c = search needs
@@ -59,7 +59,7 @@ same-length-9 c = search needs
 
 returns-3 : tie.Need-returns-3
 unfolding called
-returns-3 c = rw (c .before .before .before .before .before .before .before .before .before .before .enum-told3 .given .1) (c .before .before .before .before .before .before .solve-enumerate .ensures)
+returns-3 c = rw (c .before .before .before .before .before .before .before .before .before .before .enum-told3 .given .1) (c .before .before .before .before .before .before .solve-enumerate .ensures .0)
 
 pub call-rule-spec : {M : Type 1} → statement M
 call-rule-spec =

@@ -17,13 +17,13 @@ slice-aggregate-put-table c = search needs
 put-table-requires : tie.Need-put-table-requires
 put-table-requires c κs =
     let call = c .before .before .before in
-    (call .before .before .before .before .pre, seen-within _ _ _ _ _ (call .cal-all-solution .ensures))
+    (call .before .before .before .before .pre, seen-within _ _ _ _ _ (call .cal-all-solution .ensures .0))
 
 same-length : tie.Need-same-length
 same-length c = search needs
 
 returns : tie.Need-returns
-returns c = block-written _ _ _ _ (c .before .before .before .before .before .before .cal-all-solution .ensures) (c .before .before .put-table .ensures)
+returns c = block-written _ _ _ _ (c .before .before .before .before .before .before .cal-all-solution .ensures .0) (c .before .before .put-table .ensures)
 
 pub put-block-spec : {M : Type 1} → statement M
 put-block-spec =

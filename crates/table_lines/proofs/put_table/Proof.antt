@@ -1,5 +1,6 @@
 -- `put_table` meets its contract: each of its two ways writes the text that the definition has for the answer. Assumes nothing.
 use borrow.Author.Needs.{needs}
+use Rattle.refusals.proofs.FirstFailure.{refusal-not-zero}
 use Rattle.table_lines.specs.Tables.{tableText}
 use Rattle.table_lines.proofs.TablesWritten.{table-written, refusal-written}
 use Rattle.table_lines.proofs.put_table.Statement.{statement}
@@ -34,7 +35,7 @@ unfolding tableText
 returns c =
     let put = c .before .before in
     let number = put .before in
-    table-written _ _ (number .before .before .before .answer .given .1) (refusal-written (number .refusal-number .ensures) (put .put-no-table .ensures))
+    table-written _ _ (number .before .before .before .answer .given .1) (rw refusal-not-zero (refusal-written (number .refusal-number .ensures) (put .put-no-table .ensures)))
 
 same-length-2 : tie.Need-same-length-2
 same-length-2 c = search needs

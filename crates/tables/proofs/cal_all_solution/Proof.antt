@@ -1,5 +1,5 @@
--- `cal_all_solution` meets its contract: a refusal by the tests ends the call; else the frontier is read, and the table of the block asked for is put.
--- Rests on what the crates rules and solutions tell of a position that the tests accept, and on the contracts of the calls. Assumes nothing.
+-- `cal_all_solution` meets its contract: a refusal by the tests ends the call; else the frontier is read, and the table of the block asked for is put; the other
+-- clause is the law of the call, from this equation. Rests on TableCalls, what is told of a position that the tests accept, and the contracts of the calls. Assumes nothing.
 use mathlib.Core.Path.{_≡_, sym, ap, _∙_}
 use mathlib.Core.List.{List}
 use borrow.Author.Needs.{needs}
@@ -9,7 +9,8 @@ use Rattle.refusals.proofs.Accepted.{AcceptedPosition, accepted-position}
 use Rattle.blocks.specs.Blocks.{Block}
 use Rattle.frontier.proofs.ReadFrontier.{read-whole, read-frontier}
 use Rattle.groups.proofs.FrontierBlocks.{read-combinable}
-use Rattle.tables.specs.Tables.{blockAsked, calAllSolution}
+use Rattle.tables.specs.Tables.{blockAsked}
+use Rattle.tables.proofs.TableCalls.{tests-refuse, tests-accept, table-call}
 use Rattle.tables.proofs.cal_all_solution.Statement.{statement}
 use Rattle.tables.proofs.cal_all_solution.Tie as tie
 
@@ -42,25 +43,26 @@ put-asked-requires c κs =
     (read-whole _ _ _ accepted _ (read .read-blocks .ensures), read-combinable _ _ _ accepted _ (read .read-blocks .ensures))
 
 returns : tie.Need-returns
-unfolding calAllSolution
 returns c =
     let told = c .before .refusal .given in
     let tested = c .before .before .before in
-    rw (sym (tested .test-position .ensures) ∙ told .1)
+    let a = tested .before .before .before .args in
+    let is = tests-refuse (a .rows) (a .columns) (a .position .now) (a .block) (a .table .now) (told .0 .0) (sym (tested .test-position .ensures) ∙ told .1) in
+    (is, table-call (a .rows) (a .columns) (a .position .now) (a .block) (a .table .now) _ _ is)
 
 same-length : tie.Need-same-length
 same-length c = search needs
 
 returns-2 : tie.Need-returns-2
-unfolding calAllSolution
 returns-2 c =
     let put = c .before .before in
     let read = put .before .before in
     let accepts = read .before in
     let a = accepts .before .before .before .before .before .args in
-    rw (tests accepts)
-    (put .put-asked .ensures
-    ∙ ap (λ (bs : List Block). blockAsked bs (a .block) (a .table .now)) (read-frontier _ _ _ (facts accepts) _ (read .read-blocks .ensures)))
+    let is = put .put-asked .ensures
+    ∙ ap (λ (bs : List Block). blockAsked bs (a .block) (a .table .now)) (read-frontier _ _ _ (facts accepts) _ (read .read-blocks .ensures))
+    ∙ tests-accept (a .rows) (a .columns) (a .position .now) (a .block) (a .table .now) (tests accepts) in
+    (is, table-call (a .rows) (a .columns) (a .position .now) (a .block) (a .table .now) _ _ is)
 
 pub cal-all-solution-spec : {M : Type 1} → statement M
 cal-all-solution-spec =

@@ -1,6 +1,7 @@
 -- `put_picture` meets its contract: by the verdict's form it writes nothing, or the word and the cells, which are one text. Assumes nothing.
 use mathlib.Core.Path.{refl}
 use native.Mathlib.Omega.{arith}
+use Rattle.refusals.proofs.FirstFailure.{refusal-not-zero}
 use Rattle.text.proofs.Writing.{written-both}
 use borrow.Author.Needs.{needs}
 use Rattle.board_lines.proofs.verdicts.put_picture.Statement.{statement}
@@ -22,7 +23,7 @@ put-cells-requires : tie.Need-put-cells-requires
 put-cells-requires c κs = search needs
 
 returns : tie.Need-returns
-returns c = rw (c .enum-told .given .1) (record { is = refl; next = omega (arith, c .before .before .before .before .pre) })
+returns c = rw (c .enum-told .given .1, refusal-not-zero) (record { is = refl; next = omega (arith, c .before .before .before .before .pre) })
 
 same-length : tie.Need-same-length
 same-length c = search needs
