@@ -2,8 +2,11 @@
 -- cells or leaves room for them. Each fact is one part of the test's "and". Assumes nothing.
 use mathlib.Core.Path.{_≡_}
 use mathlib.Core.Bool.{true, _&&_}
-use Prim.Native.Nat.{ℕ, _*_, _≤_}
+use Prim.Native.Nat.{ℕ, _+_, _*_, _≤_}
 use native.Mathlib.Nat.{mul-le-mul}
+use native.Mathlib.Omega.{arith}
+use mir.Syntax.{w64}
+use mir.Val.{Fits}
 use lib.Dec.{leb}
 use borrow.Author.Tests.{leb-true, eqb-true}
 use Rattle.lists.proofs.Tests.{and-left, and-right}
@@ -13,6 +16,14 @@ use Rattle.refusals.specs.Tests.{sizeOk, lengthOk, roomOk}
 -- sides of at most 32 have at most 1024 cells
 pub few-cells : {rows columns : ℕ} → Sized rows columns → rows * columns ≤ 1024
 few-cells s = mul-le-mul (s .few-rows) (s .few-columns)
+
+-- and the number of a cell fits a machine word, whichever of the sides is which
+module _ {x y : ℕ} (few : x ≤ 32) (few' : y ≤ 32) where
+  pub product-fits : Fits w64 (x * y)
+  product-fits = omega (arith, mul-le-mul few few')
+
+  pub place-fits : {z : ℕ} → z ≤ 32 → Fits w64 (x * y + z)
+  place-fits h = omega (arith, mul-le-mul few few')
 
 module _ (least side : ℕ) (ok : (leb least side && leb side 32) ≡ true) where
   side-least : least ≤ side

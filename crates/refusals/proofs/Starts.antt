@@ -10,18 +10,26 @@ use lib.Dec.{ltb, eqb}
 use lib.ListN.{length}
 use borrow.Author.Tests.{ltb-true}
 use Rattle.lists.proofs.Tests.{Decided, decided, clash, and-left, and-right, or-cases}
+use Rattle.grid.specs.Window.{On}
 use Rattle.refusals.specs.Tests.{isOpenStart, startOk, zeroOk, startCell}
 use Rattle.lists.proofs.FirstPlaces.{first-within}
 
 module _ (rows columns row column : ℕ) (ok : startOk rows columns row column ≡ true) where
   -- a start other than 255,255
-  pub start-on-board : isOpenStart row column ≡ false → row * columns + column < rows * columns
+  pub start-on : isOpenStart row column ≡ false → On rows columns row column
   unfolding startOk
-  start-on-board e = go (or-cases (ltb row rows && ltb column columns) (isOpenStart row column) ok)
+  start-on e = go (or-cases (ltb row rows && ltb column columns) (isOpenStart row column) ok)
     where
-      go : ((ltb row rows && ltb column columns) ≡ true) ⊎ (isOpenStart row column ≡ true) → row * columns + column < rows * columns
-      go (inl h) = digits-lt (ltb-true row rows (and-left (ltb row rows) (ltb column columns) h)) (ltb-true column columns (and-right (ltb row rows) (ltb column columns) h))
+      go : ((ltb row rows && ltb column columns) ≡ true) ⊎ (isOpenStart row column ≡ true) → On rows columns row column
+      go (inl h) =
+          record {
+            in-rows = ltb-true row rows (and-left (ltb row rows) (ltb column columns) h);
+            in-columns = ltb-true column columns (and-right (ltb row rows) (ltb column columns) h);
+          }
       go (inr h) = clash (isOpenStart row column) h e
+
+  pub start-on-board : isOpenStart row column ≡ false → row * columns + column < rows * columns
+  start-on-board e = digits-lt (start-on e .in-rows) (start-on e .in-columns)
 
   pub startCell-within : (b : List ℕ) → length b ≡ rows * columns → zeroOk row column b ≡ true → startCell columns row column b < length b
   unfolding zeroOk startCell

@@ -1,14 +1,18 @@
 // replay: runs the stored answers of the Rust in data/, one file for each call, in which a line that is asked and the line that the Rust answered
-// follow each other. It names each case whose answer differs, and says how many agree.
+// follow each other. It names each case whose answer differs, and says how many agree. Last it runs ten answers that are wrong on purpose, and says how many
+// of them it took for right.
 use answers::Call;
 use answers::call_line;
 use check::same;
 ghost use mathlib.Core.Path.{_≡_};
 ghost use Prim.Native.Nat.{_<_};
 ghost use lib.ListN.{length};
+ghost use Rattle.replay.specs.Stored.{agreeing, judged, oneMore};
 
-// Where a file stands: whether the line that comes is an answer, how long the line asked and the line that comes are so far, and the cases so far.
+// Where a file stands: whether a case that differs is named, whether the line that comes is an answer, how long the line asked and the line that comes are so
+// far, and the cases so far.
 struct State {
+    named: bool,
     answering: bool,
     asked: usize,
     len: usize,
@@ -31,7 +35,9 @@ fn agrees(
     answer: &[u8],
     len: usize,
     out: &mut [u8],
-) -> bool {
+) -> bool
+    ensures { λ r. ⌜ r ≡ agreeing call (now (asked .entry)) «asked_len» (now (answer .entry)) len (length (now (out .entry))) ⌝ }
+{
     if asked.len() < asked_len {
         return false;
     }
@@ -54,7 +60,9 @@ fn name_case(asked: &[u8], asked_len: usize) {
 }
 
 // A count of cases and one more, up to a count that no file has.
-fn one_more(cases: usize) -> usize {
+fn one_more(cases: usize) -> usize
+    ensures { λ r. ⌜ r ≡ oneMore cases ⌝ }
+{
     if cases < 0xffff_ffff {
         return cases + 1;
     }
@@ -62,10 +70,13 @@ fn one_more(cases: usize) -> usize {
 }
 
 // The case is judged; one that differs is named.
-fn judge(call: Call, s: State, asked: &[u8], answer: &[u8], out: &mut [u8]) -> State {
+fn judge(call: Call, s: State, asked: &[u8], answer: &[u8], out: &mut [u8]) -> State
+    ensures { λ r. ⌜ r ≡ judged (agreeing call (now (asked .entry)) (s .asked) (now (answer .entry)) (s .len) (length (now (out .entry)))) s ⌝ }
+{
     let asked_len = s.asked;
     if agrees(call, asked, asked_len, answer, s.len, out) {
         return State {
+            named: s.named,
             answering: false,
             asked: 0,
             len: 0,
@@ -73,8 +84,11 @@ fn judge(call: Call, s: State, asked: &[u8], answer: &[u8], out: &mut [u8]) -> S
             differ: s.differ,
         };
     }
-    name_case(asked, asked_len);
+    if s.named {
+        name_case(asked, asked_len);
+    }
     State {
+        named: s.named,
         answering: false,
         asked: 0,
         len: 0,
@@ -106,6 +120,7 @@ fn take(
             return judge(call, s, asked, answer, out);
         }
         return State {
+            named: s.named,
             answering: true,
             asked: s.len,
             len: 0,
@@ -158,47 +173,90 @@ fn print_counts(agree: usize, differ: usize) {
     io::write_all(1, b" differ\n");
 }
 
-// Runs the cases of an open file and says how many agree.
-fn run(call: Call, fd: i32, chunk: &mut [u8], asked: &mut [u8], answer: &mut [u8], out: &mut [u8]) {
-    let mut s = State {
+// Before the first case.
+fn no_cases(named: bool) -> State {
+    State {
+        named,
         answering: false,
         asked: 0,
         len: 0,
         agree: 0,
         differ: 0,
-    };
+    }
+}
+
+// Runs the cases of an open file.
+fn run(
+    call: Call,
+    fd: i32,
+    before: State,
+    chunk: &mut [u8],
+    asked: &mut [u8],
+    answer: &mut [u8],
+    out: &mut [u8],
+) -> State {
+    let mut s = before;
     let mut left: usize = 65536;
     while 0 < left {
         let n = io::read_full(fd, chunk);
         s = take_all(call, s, &chunk[..n], asked, answer, out);
         left = chunks_left(left, n, chunk.len());
     }
-    print_counts(s.agree, s.differ);
+    s
 }
 
-// Runs the file of a call.
-fn run_file(call: Call, name: &[u8]) {
+// Runs a file of a call's answers.
+fn run_file(call: Call, name: &[u8], before: State) -> State {
     let fd = os::open_read(name);
     if fd < 0 {
         os::fail(name);
-        return;
+        return before;
     }
-    io::write_all(1, name);
-    io::write_all(1, b": ");
     let mut chunk = io::large_buffer();
     let mut asked = line_buffer();
     let mut answer = io::large_buffer();
     let mut out = io::large_buffer();
-    run(call, fd, &mut chunk, &mut asked, &mut answer, &mut out);
+    let after = run(
+        call,
+        fd,
+        before,
+        &mut chunk,
+        &mut asked,
+        &mut answer,
+        &mut out,
+    );
     libc::close(fd);
+    after
+}
+
+// Runs the Rust's answers of a call and says how many agree.
+fn run_call(call: Call, name: &[u8]) {
+    io::write_all(1, name);
+    io::write_all(1, b": ");
+    let s = run_file(call, name, no_cases(true));
+    print_counts(s.agree, s.differ);
+}
+
+// The control: runs the answers that are wrong, without naming them, and says how many agree.
+fn run_wrong() {
+    let mut s = run_file(Call::Frontier, b"wrong_frontier", no_cases(false));
+    s = run_file(Call::Direct, b"wrong_direct", s);
+    s = run_file(Call::Minus, b"wrong_minus", s);
+    s = run_file(Call::Enumerate, b"wrong_enumerate", s);
+    s = run_file(Call::Table, b"wrong_table", s);
+    s = run_file(Call::Pattern, b"wrong_pattern", s);
+    s = run_file(Call::Verdict, b"wrong_verdict", s);
+    io::write_all(1, b"control: ");
+    print_counts(s.agree, s.differ);
 }
 
 fn main() {
-    run_file(Call::Frontier, b"frontier");
-    run_file(Call::Direct, b"direct");
-    run_file(Call::Minus, b"minus");
-    run_file(Call::Enumerate, b"enumerate");
-    run_file(Call::Table, b"table");
-    run_file(Call::Pattern, b"pattern");
-    run_file(Call::Verdict, b"verdict");
+    run_call(Call::Frontier, b"frontier");
+    run_call(Call::Direct, b"direct");
+    run_call(Call::Minus, b"minus");
+    run_call(Call::Enumerate, b"enumerate");
+    run_call(Call::Table, b"table");
+    run_call(Call::Pattern, b"pattern");
+    run_call(Call::Verdict, b"verdict");
+    run_wrong();
 }

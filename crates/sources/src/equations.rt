@@ -6,7 +6,7 @@ use blocks::slots_at;
 use grid::window::count_beside;
 use grid::window::wide;
 ghost use mathlib.Core.Path.{_≡_};
-ghost use Prim.Native.Nat.{_*_, _≤_, _<_};
+ghost use Prim.Native.Nat.{_+_, _-_, _*_, _≤_, _<_};
 ghost use Rattle.grid.specs.Cells.{shows};
 ghost use Rattle.grid.specs.Window.{neighbours, Board};
 ghost use Rattle.sources.specs.Equations.{restAt, plainEquations, equationArrays};
@@ -21,6 +21,14 @@ pub struct Equations {
     pub len: usize,
 }
 
+// A number less known mines, plus 8, so that none is below 0.
+fn less_known(number: u8, known: u8) -> u8
+    requires { ⌜ (number ≤ 8) × (known ≤ 8) ⌝ }
+    ensures { λ r. ⌜ r ≡ (number + 8) - known ⌝ }
+{
+    number + 8 - known
+}
+
 // The remainder of a source's equation plus 8: its number less its neighbouring known mines.
 pub fn rest_of(rows: usize, columns: usize, position: &[u8], c: usize) -> u8
     requires { ⌜ Board (now position) rows columns ⌝ }
@@ -28,7 +36,7 @@ pub fn rest_of(rows: usize, columns: usize, position: &[u8], c: usize) -> u8
     ensures { λ r. ⌜ r ≡ restAt (neighbours rows columns) (now (position .entry)) c ⌝ }
 {
     let known = count_beside(rows, columns, position, c / columns, c % columns, 11);
-    position[c] + 8 - (known as u8)
+    less_known(position[c], known as u8)
 }
 
 // The equation of each source: its closed neighbours, and its number less its neighbouring known mines.

@@ -1,15 +1,16 @@
 -- The loops that go through a list of cells or the cells of a board. Marking the cells of a list from place k on leads to where marking all of them leads;
 -- all safe cells are open if each cell passed was a mine or open; closing what is not open, from place i on, and counting what is open, lead to the picture and
--- to the number of its open cells. Rests on InPlaceAndEmpty. Assumes nothing.
+-- to the number of its open cells; and cells that go from one position to another, one after another, make the two the same. Rests on InPlaceAndEmpty. Assumes nothing.
 use mathlib.Core.Path.{_≡_, refl, sym, ap, _∙_}
 use mathlib.Core.Logic.{_≢_}
 use mathlib.Core.Bool.{Bool, true, false, cond, _||_}
-use mathlib.Core.List.{List, _∷_}
+use mathlib.Core.List.{List, [], _∷_, _++_}
 use Prim.Native.Nat.{ℕ, _+_, _≤_, _<_}
+use native.Mathlib.Numerals.{add-one}
 use native.Mathlib.Omega.{arith}
 use lib.Dec.{leb, eqb}
 use lib.ListN.{length, getD, take, drop, set, length-set}
-use lib.Seq.{drop-set-lt}
+use lib.Seq.{drop-set-lt, take-set-le, take-all, take-suc, take-suc-set}
 use borrow.Author.Tests.{le-leb, lt-leb, eq-eqb, ne-eqb}
 use Rattle.lists.specs.Lists.{every}
 use Rattle.lists.proofs.Tests.{every-fails}
@@ -107,3 +108,35 @@ module _ {p₀ p : List ℕ} {i n : ℕ} (h : Closing p₀ p i n) (on : i < leng
 pub closing-last : {p₀ p : List ℕ} {i n : ℕ} → Closing p₀ p i n → length p ≤ i → (n ≡ opened p₀) × (p ≡ picture p₀)
 closing-last {p₀} {p} {i} {n} h past =
     (omega (arith, h .counted, ap opened (drop-none p i past)), sym (from-last shownAs p i past) ∙ h .shown)
+
+-- ---- cells go from one position to another
+
+-- the first i cells of q are those of p
+pub record Copied (p q : List ℕ) (i : ℕ) : Type 0 where
+  pub long : length q ≡ length p
+  pub same : take i q ≡ take i p
+
+module _ {p q : List ℕ} where
+  pub copied-first : length q ≡ length p → Copied p q 0
+  copied-first e = record { long = e; same = refl }
+
+  module _ {i : ℕ} (h : Copied p q i) where
+    -- the cell at place i goes over
+    pub copied-next : i < length p → Copied p (set q i (getD p i 0)) (i + 1)
+    copied-next on =
+        record {
+          long = length-set q i (getD p i 0) ∙ h .long;
+          same =
+              rw add-one
+              (take-suc-set q i (getD p i 0) (omega (arith, h .long))
+              ∙ ap (λ (k : List ℕ). k ++ (getD p i 0 ∷ [])) (h .same)
+              ∙ sym (take-suc p i 0 on));
+        }
+
+    -- a cell that did not go over yet changes
+    pub copied-before : (v : ℕ) → Copied (set p i v) q i
+    copied-before v = record { long = h .long ∙ sym (length-set p i v); same = h .same ∙ sym (take-set-le i p i v (omega arith)) }
+
+    -- all went over
+    pub copied-last : length p ≤ i → q ≡ p
+    copied-last past = sym (take-all i q (omega (arith, h .long))) ∙ h .same ∙ take-all i p past

@@ -1,13 +1,15 @@
--- The verdict from the cell that the start means, step by step as the code takes them: every cell of the lent picture is closed; a start on a mine is judged no;
--- else the start is opened, which leads to the position where the passes begin, and the end of the passes is what the caller sees. Assumes nothing.
-use mathlib.Core.Path.{_≡_, sym, ap, _∙_}
+-- The verdict from the cell that the start means, step by step as the code takes them: an array has room for the board's cells; every cell of a position is
+-- closed; a start on a mine is judged no; else the start is opened, which leads to the position where the passes begin, and the end of the passes is what the
+-- caller sees. Assumes nothing.
+use mathlib.Core.Path.{_≡_, refl, sym, ap, _∙_}
 use mathlib.Core.Logic.{_≢_}
 use mathlib.Core.Bool.{true, false, _&&_}
 use mathlib.Core.List.{List, [], _∷_}
-use Prim.Native.Nat.{ℕ, _*_, _<_}
+use Prim.Native.Nat.{ℕ, zero, suc, _*_, _≤_, _<_}
 use native.Mathlib.Omega.{arith}
 use lib.Dec.{ltb}
-use lib.ListN.{length, replicate, length-replicate}
+use lib.ListN.{length, take, replicate, length-replicate}
+use lib.Seq.{length-take-le}
 use borrow.Author.Tests.{lt-ltb, eq-eqb, ne-eqb}
 use Rattle.grid.specs.Cells.{cellOf}
 use Rattle.grid.specs.Window.{neighbours, Board}
@@ -25,6 +27,30 @@ use Rattle.verdict.specs.declared.Verdict.the-variants.{Judged}
 use Rattle.verdict.specs.Findings.{endOf}
 use Rattle.verdict.specs.Verdict.{verdictSeen, judgedFrom}
 
+-- an array that is all closed
+abbrev pub array : List ℕ
+array = replicate 1024 10
+
+-- of closed cells none is open
+none-open : (n : ℕ) → opened (replicate n 10) ≡ 0
+none-open zero = refl
+none-open (suc n) = omega (arith, none-open n)
+
+none-shown : (n : ℕ) → picture (replicate n 10) ≡ replicate n 10
+none-shown zero = refl
+none-shown (suc n) = ap (λ (l : List ℕ). 10 ∷ l) (none-shown n)
+
+-- it has room for the board's cells
+module _ {rows columns : ℕ} {b : List ℕ} (board : Board b rows columns) where
+  pub few : length b ≤ 1024
+  few = omega (arith, board .whole, few-cells (board .sized))
+
+  pub front-long : length (take (length b) array) ≡ length b
+  front-long = length-take-le (length b) array (omega (arith, few, length-replicate {A = ℕ} 1024 10))
+
+  pub front-board : Board (take (length b) array) rows columns
+  front-board = record { sized = board .sized; whole = front-long ∙ board .whole }
+
 module _ {rows columns : ℕ} {b : List ℕ} (board : Board b rows columns) (s : ℕ) (l : s < length b) where
   -- the start's cell fits 16 bits
   pub start-small : s < 1024
@@ -34,26 +60,28 @@ module _ {rows columns : ℕ} {b : List ℕ} (board : Board b rows columns) (s :
   pub start-below : (ltb s (rows * columns) && true) ≡ true
   start-below = rw (lt-ltb s (rows * columns) (rw (board .whole) at l))
 
-  -- every cell of the lent picture is closed
+  -- every cell of a position is closed
   module _ {lent : List ℕ} (whole : Board lent rows columns) {closed : List ℕ} (is : closed ≡ replicate (length lent) 10) where
     pub closed-board : Board closed rows columns
     closed-board = record { sized = board .sized; whole = ap length is ∙ length-replicate (length lent) 10 ∙ whole .whole }
 
     -- as many as the board has
-    closed-first : closed ≡ replicate (length b) 10
-    closed-first = is ∙ ap (λ (n : ℕ). replicate n 10) (whole .whole ∙ sym (board .whole))
+    pub closed-all : closed ≡ replicate (length b) 10
+    closed-all = is ∙ ap (λ (n : ℕ). replicate n 10) (whole .whole ∙ sym (board .whole))
 
-    -- the start is a mine
-    pub start-mine : cellOf b s ≡ 255 → verdictSeen (Judged false 0 0 0) closed ≡ judgedFrom (neighbours rows columns) b s
-    unfolding judgedFrom
-    start-mine e = rw (eq-eqb (cellOf b s) 255 e, closed-first)
+  -- the start is a mine: nothing is open
+  pub start-mine : cellOf b s ≡ 255 → {closed : List ℕ} → closed ≡ replicate (length b) 10 → {n : ℕ} {shown : List ℕ} → n ≡ opened closed → shown ≡ picture closed
+      → verdictSeen (Judged false n 0 0) shown ≡ judgedFrom (neighbours rows columns) b s
+  unfolding judgedFrom
+  start-mine e is count shows = rw (count, shows, is, none-open (length b), none-shown (length b), eq-eqb (cellOf b s) 255 e)
 
-    -- the start is safe, and is opened
-    module _ (ok : Accepted (neighbours rows columns) b) (safe : cellOf b s ≢ 255)
+  -- the start is safe
+  module _ (safe : cellOf b s ≢ 255) where
+    -- it is opened, and that is where the passes begin
+    module _ (ok : Accepted (neighbours rows columns) b) {closed : List ℕ} (is : closed ≡ replicate (length b) 10)
         {first : List ℕ} (opens : first ≡ openCells (neighbours rows columns) b closed (s ∷ [])) where
-      -- that is where the passes begin
-      first-begins : first ≡ beginning (neighbours rows columns) b s
-      first-begins = opens ∙ rw closed-first
+      pub first-begins : first ≡ beginning (neighbours rows columns) b s
+      first-begins = opens ∙ rw is
 
       pub first-own : Fits (neighbours rows columns) first (own b)
       first-own = rw first-begins (begin-own (neighbours rows columns) b s ok l safe)
@@ -61,11 +89,16 @@ module _ {rows columns : ℕ} {b : List ℕ} (board : Board b rows columns) (s :
       pub first-board : Board first rows columns
       first-board = record { sized = board .sized; whole = fit-length (neighbours rows columns) b first first-own ∙ board .whole }
 
-      -- and what is seen is the end of the passes
-      pub passes-told : {e : Ending} {last : List ℕ}
-          → e ≡ endOf (passes (neighbours rows columns) b (threeRules (neighbours rows columns)) (length b) first 0 0)
-          → last ≡ passes (neighbours rows columns) b (threeRules (neighbours rows columns)) (length b) first 0 0 .position
-          → {n : ℕ} {shown : List ℕ} → n ≡ opened last → shown ≡ picture last
-          → verdictSeen (Judged (e .yes) n (e .grade) (e .rounds)) shown ≡ judgedFrom (neighbours rows columns) b s
-      unfolding judgedFrom judge
-      passes-told ends at count shows = rw (ne-eqb (cellOf b s) 255 safe, count, shows, at, ends, first-begins)
+      pub first-passes : judge (neighbours rows columns) b (threeRules (neighbours rows columns)) s
+          ≡ passes (neighbours rows columns) b (threeRules (neighbours rows columns)) (length b) first 0 0
+      unfolding judge
+      first-passes = rw first-begins
+
+    -- and what is seen is the end of the passes
+    pub passes-told : {e : Ending} {last : List ℕ}
+        → e ≡ endOf (judge (neighbours rows columns) b (threeRules (neighbours rows columns)) s)
+        → last ≡ judge (neighbours rows columns) b (threeRules (neighbours rows columns)) s .position
+        → {n : ℕ} {shown : List ℕ} → n ≡ opened last → shown ≡ picture last
+        → verdictSeen (Judged (e .yes) n (e .grade) (e .rounds)) shown ≡ judgedFrom (neighbours rows columns) b s
+    unfolding judgedFrom
+    passes-told ends at count shows = rw (ne-eqb (cellOf b s) 255 safe, count, shows, at, ends)

@@ -1,9 +1,8 @@
-// The verdict: is_solvable with refresh_board and IsVictory, in document 01's passes. The lent picture is the position on which the passes work; at the
-// end what is not open is 10 again. specs/Verdict.antt says what a caller sees; demand 3 is part of the contract.
+// The verdict: is_solvable with refresh_board and IsVictory, in document 01's passes. The passes work on a position of their own; at the end
+// it goes to the lent picture, and what is not open is 10 there. specs/Verdict.antt says what a caller sees; demand 3 is part of the contract.
 pub mod finding;
 pub mod passes;
 
-use flood::refresh_board;
 use passes::run_passes;
 use refusals::Refusal;
 use refusals::Tested;
@@ -28,46 +27,75 @@ pub enum Verdict {
 }
 
 // Every cell closed.
-fn close_all(picture: &mut [u8])
-    ensures { λ _. ⌜ now (picture .exit) ≡ replicate (length (now (picture .entry))) 10 ⌝ }
+fn close_all(position: &mut [u8])
+    ensures { λ _. ⌜ now (position .exit) ≡ replicate (length (now (position .entry))) 10 ⌝ }
 {
-    for i in 0..picture.len() {
-        picture[i] = 10;
+    for i in 0..position.len() {
+        position[i] = 10;
     }
 }
 
-// Makes 10 of what is not open, and counts what is.
-fn close_marks(picture: &mut [u8]) -> usize
-    ensures { λ r. ⌜ (r ≡ opened (now (picture .entry))) × (now (picture .exit) ≡ pictureOf (now (picture .entry))) ⌝ }
+// Makes 10 of what is not open, counts what is, and shows both.
+fn close_marks(position: &mut [u8], picture: &mut [u8]) -> usize
+    requires { ⌜ length (now picture) ≡ length (now position) ⌝ }
+    ensures { λ r. ⌜ (r ≡ opened (now (position .entry))) × (now (picture .exit) ≡ pictureOf (now (position .entry))) ⌝ }
 {
     let mut opened = 0;
-    for i in 0..picture.len() {
-        if picture[i] <= 8 {
+    for i in 0..position.len() {
+        if position[i] <= 8 {
             opened += 1;
         } else {
-            picture[i] = 10;
+            position[i] = 10;
         }
+        picture[i] = position[i];
     }
     opened
 }
 
-// The verdict of an accepted board from the cell that its start means.
+// The verdict of an accepted board from the cell that its start means. The position after the start stands in `first`, and the passes work in `position`.
+fn judge_from(
+    rows: usize,
+    columns: usize,
+    cells: &[u8],
+    start: usize,
+    first: &mut [u8],
+    position: &mut [u8],
+    picture: &mut [u8],
+) -> Verdict
+    requires { ⌜ Board (now cells) rows columns × Board (now first) rows columns × Board (now position) rows columns × Board (now picture) rows columns ⌝ }
+    requires { ⌜ Accepted (neighbours rows columns) (now cells) ⌝ }
+    requires { ⌜ start < length (now cells) ⌝ }
+    ensures { λ r. ⌜ verdictSeen r (now (picture .exit)) ≡ judgedFrom (neighbours rows columns) (now (cells .entry)) start ⌝ }
+{
+    close_all(first);
+    if cells[start] == 255 {
+        let opened = close_marks(first, picture);
+        return Verdict::Judged(false, opened, 0, 0);
+    }
+    let end = run_passes(rows, columns, cells, start, first, position);
+    let opened = close_marks(position, picture);
+    Verdict::Judged(end.yes, opened, end.grade, end.rounds)
+}
+
+// The same, with positions of its own.
 fn judge(rows: usize, columns: usize, cells: &[u8], start: usize, picture: &mut [u8]) -> Verdict
     requires { ⌜ Board (now cells) rows columns × Board (now picture) rows columns ⌝ }
     requires { ⌜ Accepted (neighbours rows columns) (now cells) ⌝ }
     requires { ⌜ start < length (now cells) ⌝ }
     ensures { λ r. ⌜ verdictSeen r (now (picture .exit)) ≡ judgedFrom (neighbours rows columns) (now (cells .entry)) start ⌝ }
 {
-    close_all(picture);
-    if cells[start] == 255 {
-        return Verdict::Judged(false, 0, 0, 0);
-    }
-    let mut list = [0u16; 1024];
-    list[0] = start as u16;
-    refresh_board(rows, columns, cells, picture, &list, 1);
-    let end = run_passes(rows, columns, cells, picture);
-    let opened = close_marks(picture);
-    Verdict::Judged(end.yes, opened, end.grade, end.rounds)
+    let mut first = [10u8; 1024];
+    let mut position = [10u8; 1024];
+    let n = cells.len();
+    judge_from(
+        rows,
+        columns,
+        cells,
+        start,
+        &mut first[..n],
+        &mut position[..n],
+        picture,
+    )
 }
 
 // is_solvable: refusals 1, 2, 3, 4, 5 and 7, then the verdict.

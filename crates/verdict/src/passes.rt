@@ -3,15 +3,16 @@ use super::finding::find_cells;
 use flood::refresh_board;
 use grid::window::wide;
 ghost use mathlib.Core.Path.{_≡_};
+ghost use Rattle.grid.specs.Cells.{cellOf};
 ghost use Rattle.grid.specs.Window.{neighbours, Board};
-ghost use Prim.Native.Nat.{_*_, _≤_, max};
+ghost use mathlib.Core.Logic.{_≢_};
+ghost use Prim.Native.Nat.{_≤_, _<_, max};
 ghost use lib.Dec.{ltb};
-ghost use lib.ListN.{length, take};
+ghost use lib.ListN.{length, take, replicate};
 ghost use Rattle.lists.specs.Lists.{all};
 ghost use mathlib.Core.Bool.{true};
-ghost use Rattle.fitting.specs.Layouts.{Fits};
-ghost use Rattle.fitting.specs.Boards.{Accepted, own};
-ghost use Rattle.fitting.specs.Passes.{allOpen, markMines, passes};
+ghost use Rattle.fitting.specs.Boards.{Accepted};
+ghost use Rattle.fitting.specs.Passes.{allOpen, markMines, judge};
 ghost use Rattle.solutions.specs.ThreeRules.{threeRules};
 ghost use Rattle.verdict.specs.Findings.{endOf};
 
@@ -48,6 +49,16 @@ fn mark_mines(position: &mut [u8], list: &[u16; 1024], count: usize)
     }
 }
 
+// The cells of one position go to another.
+fn copy_cells(from: &[u8], to: &mut [u8])
+    requires { ⌜ length (now to) ≡ length (now from) ⌝ }
+    ensures { λ _. ⌜ now (to .exit) ≡ now (from .entry) ⌝ }
+{
+    for i in 0..from.len() {
+        to[i] = from[i];
+    }
+}
+
 // The greater of two grades.
 fn greater(a: usize, b: usize) -> usize
     ensures { λ r. ⌜ r ≡ max a b ⌝ }
@@ -55,14 +66,25 @@ fn greater(a: usize, b: usize) -> usize
     if a < b { b } else { a }
 }
 
-// At most as many passes as there are cells.
-pub fn run_passes(rows: usize, columns: usize, board: &[u8], position: &mut [u8]) -> Ending
-    requires { ⌜ Board (now board) rows columns × Board (now position) rows columns ⌝ }
+// Opens the start in `first`, where all is closed; from there on at most as many passes as there are cells, in `position`.
+pub fn run_passes(
+    rows: usize,
+    columns: usize,
+    board: &[u8],
+    start: usize,
+    first: &mut [u8],
+    position: &mut [u8],
+) -> Ending
+    requires { ⌜ Board (now board) rows columns × Board (now first) rows columns × Board (now position) rows columns ⌝ }
     requires { ⌜ Accepted (neighbours rows columns) (now board) ⌝ }
-    requires { ⌜ Fits (neighbours rows columns) (now position) (own (now board)) ⌝ }
-    ensures { λ r. ⌜ r ≡ endOf (passes (neighbours rows columns) (now (board .entry)) (threeRules (neighbours rows columns)) (length (now (board .entry))) (now (position .entry)) 0 0) ⌝ }
-    ensures { λ _. ⌜ now (position .exit) ≡ passes (neighbours rows columns) (now (board .entry)) (threeRules (neighbours rows columns)) (length (now (board .entry))) (now (position .entry)) 0 0 .position ⌝ }
+    requires { ⌜ (start < length (now board)) × (cellOf (now board) start ≢ 255) × (now first ≡ replicate (length (now board)) 10) ⌝ }
+    ensures { λ r. ⌜ r ≡ endOf (judge (neighbours rows columns) (now (board .entry)) (threeRules (neighbours rows columns)) start) ⌝ }
+    ensures { λ _. ⌜ now (position .exit) ≡ judge (neighbours rows columns) (now (board .entry)) (threeRules (neighbours rows columns)) start .position ⌝ }
 {
+    let mut list = [0u16; 1024];
+    list[0] = start as u16;
+    refresh_board(rows, columns, board, first, &list, 1);
+    copy_cells(first, position);
     let mut grade = 0;
     let mut rounds = 0;
     let cells = board.len();

@@ -4,8 +4,8 @@ use mathlib.Core.Path.{sym, _∙_}
 use native.Mathlib.Omega.{arith}
 use borrow.Author.Needs.{needs}
 use Rattle.refusals.specs.Tests.{startCell}
-use Rattle.refusals.proofs.Sides.{few-cells}
-use Rattle.refusals.proofs.Starts.{start-on-board}
+use Rattle.refusals.proofs.Sides.{product-fits, place-fits}
+use Rattle.refusals.proofs.Starts.{start-on}
 use Rattle.refusals.proofs.start_cell.Statement.{statement}
 use Rattle.refusals.proofs.start_cell.Tie as tie
 
@@ -21,13 +21,15 @@ returns c = rw (← c .before .before .is-open-start .ensures, c .before .if1 .t
 
 mul-result : tie.Need-mul-result
 mul-result c =
-    let start = c .before .before .before in
-    omega (arith, few-cells (start .pre .0), start-on-board _ _ _ _ (start .pre .1) (sym (c .before .is-open-start .ensures) ∙ c .if1 .left))
+    let s = c .before .before .before in
+    let on = start-on _ _ _ _ (s .pre .1) (sym (c .before .is-open-start .ensures) ∙ c .if1 .left) in
+    product-fits (omega (arith, s .pre .0, on)) (omega (arith, s .pre .0, on))
 
 add-result : tie.Need-add-result
 add-result c =
-    let start = c .before .before .before in
-    omega (arith, few-cells (start .pre .0), start-on-board _ _ _ _ (start .pre .1) (sym (c .before .is-open-start .ensures) ∙ c .if1 .left))
+    let s = c .before .before .before in
+    let on = start-on _ _ _ _ (s .pre .1) (sym (c .before .is-open-start .ensures) ∙ c .if1 .left) in
+    place-fits (omega (arith, s .pre .0, on)) (omega (arith, s .pre .0, on)) (omega (arith, s .pre .0, on))
 
 returns-2 : tie.Need-returns-2
 unfolding startCell

@@ -37,9 +37,6 @@ loop-less c = search needs
 loop-again : tie.Need-loop-again Inv-loop μ-loop
 loop-again c = search needs
 
-print-counts-requires : tie.Need-print-counts-requires Inv-loop μ-loop
-print-counts-requires c κs = search needs
-
 same-length : tie.Need-same-length Inv-loop μ-loop
 same-length c = search needs
 
@@ -69,7 +66,6 @@ run-spec =
     chunks-left-requires
     loop-less
     loop-again
-    print-counts-requires
     same-length
     same-length-2
     same-length-3

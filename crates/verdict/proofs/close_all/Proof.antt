@@ -1,5 +1,5 @@
 -- `close_all` meets its contract. The loop's invariant: closing each cell from i on leads to where closing all of them leads. The measure is what is left of
--- the picture. Rests on InPlaceAndEmpty. Assumes nothing.
+-- the position. Rests on InPlaceAndEmpty. Assumes nothing.
 use mathlib.Core.Path.{_≡_, refl, sym, _∙_}
 use mathlib.Core.List.{map}
 use Prim.Native.Nat.{ℕ, _-_}
@@ -11,16 +11,16 @@ use Rattle.verdict.proofs.close_all.Statement.{statement}
 use Rattle.verdict.proofs.close_all.Tie as tie
 
 abbrev Inv-loop : tie.InvT-loop
-Inv-loop picture₀ i₀ i-end picture i = (length picture ≡ length picture₀) × (fromOn (λ _. 10) i picture ≡ map (λ (_ : ℕ). 10) picture₀)
+Inv-loop position₀ i₀ i-end position i = (length position ≡ length position₀) × (fromOn (λ _. 10) i position ≡ map (λ (_ : ℕ). 10) position₀)
 
 abbrev μ-loop : tie.MeasureT-loop
-μ-loop picture₀ i₀ i-end picture i = i-end - i
+μ-loop position₀ i₀ i-end position i = i-end - i
 
 loop-holds : tie.Need-loop-holds Inv-loop μ-loop
 loop-holds c = (refl, from-first (λ _. 10) _)
 
-slice-write-picture : tie.Need-slice-write-picture Inv-loop μ-loop
-slice-write-picture c = search needs
+slice-write-position : tie.Need-slice-write-position Inv-loop μ-loop
+slice-write-position c = search needs
 
 add-i : tie.Need-add-i Inv-loop μ-loop
 add-i c = search needs
@@ -31,8 +31,8 @@ loop-less c = search needs
 loop-again : tie.Need-loop-again Inv-loop μ-loop
 loop-again c =
     let l = c .before .loop in (
-      length-set (l .picture) (l .i) 10 ∙ l .inv .0,
-      from-stored (λ _. 10) (l .picture) (l .i) (omega (arith, l .inv .0)) 10 refl ∙ l .inv .1,
+      length-set (l .position) (l .i) 10 ∙ l .inv .0,
+      from-stored (λ _. 10) (l .position) (l .i) (omega (arith, l .inv .0)) 10 refl ∙ l .inv .1,
     )
 
 same-length : tie.Need-same-length Inv-loop μ-loop
@@ -42,7 +42,7 @@ returns : tie.Need-returns Inv-loop μ-loop
 returns c =
     let s = c .before .before in
     let l = c .before .loop in
-    sym (from-last (λ _. 10) (l .picture) (l .i) (omega (arith, l .inv .0, c .loop-test .left))) ∙ l .inv .1 ∙ map-constant 10 (s .args .picture .now)
+    sym (from-last (λ _. 10) (l .position) (l .i) (omega (arith, l .inv .0, c .loop-test .left))) ∙ l .inv .1 ∙ map-constant 10 (s .args .position .now)
 
 pub close-all-spec : {M : Type 1} → statement M
 close-all-spec =
@@ -51,7 +51,7 @@ close-all-spec =
     Inv-loop
     μ-loop
     loop-holds
-    slice-write-picture
+    slice-write-position
     add-i
     loop-less
     loop-again

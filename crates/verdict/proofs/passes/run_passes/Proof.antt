@@ -1,6 +1,6 @@
 -- `passes::run_passes` meets its contract. The loop's invariant: k passes lead from the first position to the present one, so that the passes left lead to the
 -- same ending, and the board's own layout fits (`OnBoard`). The measure is what is left of the count. Rests on Underway and PassesOnBoard. Assumes nothing.
-use mathlib.Core.Path.{refl, sym, _∙_}
+use mathlib.Core.Path.{_≡_, refl, sym, _∙_}
 use Prim.Native.Nat.{_-_}
 use native.Mathlib.Omega.{arith}
 use borrow.Author.Needs.{needs}
@@ -8,74 +8,118 @@ use lib.ListN.{length, take}
 use Rattle.grid.specs.Window.{neighbours}
 use Rattle.fitting.specs.Boards.{own}
 use Rattle.solutions.specs.ThreeRules.{threeRules}
+use Rattle.verdict.proofs.FromStart.{few, start-small, start-below, first-own, first-board, first-passes}
 use Rattle.verdict.proofs.Underway.{underway-first, ends-open, ends-last}
 use Rattle.verdict.proofs.PassesOnBoard.{OnBoard, same-cells, position-board, marked-board, few-rounds, found-nothing, found-cells}
 use Rattle.verdict.proofs.passes.run_passes.Statement.{statement}
 use Rattle.verdict.proofs.passes.run_passes.Tie as tie
 
 abbrev Inv-loop : tie.InvT-loop
-Inv-loop rows columns board position₀ grade₀ rounds₀ cells k₀ position grade rounds k =
-    OnBoard rows columns board position₀ k position grade rounds
+Inv-loop rows columns board start first position₀ grade₀ rounds₀ cells k₀ position grade rounds k =
+    OnBoard rows columns board first k position grade rounds
 
 abbrev μ-loop : tie.MeasureT-loop
-μ-loop rows columns board position₀ grade₀ rounds₀ cells k₀ position grade rounds k = cells - k
+μ-loop rows columns board start first position₀ grade₀ rounds₀ cells k₀ position grade rounds k = cells - k
+
+-- from the loop back to where the start is opened, and to the call
+abbrev begun : tie.At-loop Inv-loop μ-loop → tie.After-refresh-board Inv-loop μ-loop
+begun c = c .before .before .before .before .before .before .before .before
+
+abbrev called : tie.At-loop Inv-loop μ-loop → tie.Start Inv-loop μ-loop
+called c = begun c .before .before .before .before .before .before
+
+-- the position keeps its length
+as-long : (c : tie.At-loop Inv-loop μ-loop) → length (c .loop .position) ≡ length (called c .args .position .now)
+as-long c = let s = called c in position-board (s .pre .0 .0) (c .loop .inv) .whole ∙ sym (s .pre .0 .2 .whole)
+
+cast-list : tie.Need-cast-list Inv-loop μ-loop
+cast-list c = let s = c .before .before .before in omega (arith, start-small (s .pre .0 .0) (s .args .start) (s .pre .1 .1 .0))
+
+array-write-list : tie.Need-array-write-list Inv-loop μ-loop
+array-write-list c = search needs
+
+refresh-board-requires : tie.Need-refresh-board-requires Inv-loop μ-loop
+refresh-board-requires c κs =
+    let s = c .before .before .before .before .before in
+    ((s .pre .0 .0, s .pre .0 .1), (s .pre .1 .0, (omega arith, refl, start-below (s .pre .0 .0) (s .args .start) (s .pre .1 .1 .0))))
+
+copy-cells-requires : tie.Need-copy-cells-requires Inv-loop μ-loop
+copy-cells-requires c κs =
+    let flooded = c .before .before .before .before in
+    let s = flooded .before .before .before .before .before .before in
+    let on = s .pre .1 .1 in
+    omega (arith, first-board (s .pre .0 .0) (s .args .start) (on .0) (on .1) (s .pre .1 .0) (on .2) (flooded .refresh-board .ensures) .whole, s .pre .0 .2 .whole)
 
 loop-holds : tie.Need-loop-holds Inv-loop μ-loop
 loop-holds c =
-    let s = c .before .before in
+    let copied = c .before .before in
+    let flooded = copied .before .before .before .before .before in
+    let s = flooded .before .before .before .before .before .before in
     let near = neighbours (s .args .rows) (s .args .columns) in
-    underway-first near (s .args .board .now) (threeRules near) (length (s .args .board .now)) (s .args .position .now) (s .pre .1 .1)
+    let on = s .pre .1 .1 in
+    let fits = first-own (s .pre .0 .0) (s .args .start) (on .0) (on .1) (s .pre .1 .0) (on .2) (flooded .refresh-board .ensures) in
+    rw (copied .copy-cells .ensures) (underway-first near (s .args .board .now) (threeRules near) (length (s .args .board .now)) _ fits)
 
 all-open-requires : tie.Need-all-open-requires Inv-loop μ-loop
 all-open-requires c κs =
-    let s = c .before .before .before .before .before in
+    let s = called (c .before .before) in
     same-cells (s .pre .0 .0) (c .before .before .loop .inv)
 
 same-length : tie.Need-same-length Inv-loop μ-loop
 same-length c = search needs
 
+same-length-2 : tie.Need-same-length-2 Inv-loop μ-loop
+same-length-2 c = as-long (c .before .before .before .before)
+
 returns : tie.Need-returns Inv-loop μ-loop
 returns c =
-    let s = c .before .before .before .before .before .before .before in
+    let s = called (c .before .before .before .before) in
     let near = neighbours (s .args .rows) (s .args .columns) in
     let l = c .before .before .before .before .loop in
-    rw (ends-open near (s .args .board .now) (threeRules near) (l .inv) (sym (c .before .all-open .ensures) ∙ c .if1 .taken)) (refl, refl)
+    let on = s .pre .1 .1 in
+    let begins = first-passes (s .pre .0 .0) (s .args .start) (on .0) (on .1) (s .pre .1 .0) (on .2) (begun (c .before .before .before .before) .refresh-board .ensures) in
+    rw (begins, ends-open near (s .args .board .now) (threeRules near) (l .inv) (sym (c .before .all-open .ensures) ∙ c .if1 .taken)) (refl, refl)
 
 find-cells-requires : tie.Need-find-cells-requires Inv-loop μ-loop
 find-cells-requires c κs =
-    let s = c .before .before .before .before .before .before .before .before in
+    let s = called (c .before .before .before .before .before) in
     let l = c .before .before .before .before .before .loop in
     (position-board (s .pre .0 .0) (l .inv), (own (s .args .board .now), l .inv .own-fits))
 
 add-if2 : tie.Need-add-if2 Inv-loop μ-loop
 add-if2 c = search needs
 
-same-length-2 : tie.Need-same-length-2 Inv-loop μ-loop
-same-length-2 c = search needs
+same-length-3 : tie.Need-same-length-3 Inv-loop μ-loop
+same-length-3 c = search needs
+
+same-length-4 : tie.Need-same-length-4 Inv-loop μ-loop
+same-length-4 c = as-long (c .before .before .before .before .before .before .before .before .before .before)
 
 returns-2 : tie.Need-returns-2 Inv-loop μ-loop
 returns-2 c =
     let asked = c .before .before .before .before in
     let tested = asked .before .before .before in
     let l = tested .before .before .before .loop in
-    let s = tested .before .before .before .before .before .before in
+    let s = called (tested .before .before .before) in
     let shut = sym (tested .all-open .ensures) ∙ asked .before .before .if1 .left in
-    rw (found-nothing (s .pre .0 .0) (l .inv) (tested .before .before .loop-test .taken) shut (asked .find-cells .result) (asked .find-cells .ensures) (c .if2 .taken)) (refl, refl)
+    let on = s .pre .1 .1 in
+    let begins = first-passes (s .pre .0 .0) (s .args .start) (on .0) (on .1) (s .pre .1 .0) (on .2) (begun (tested .before .before .before) .refresh-board .ensures) in
+    rw (begins, found-nothing (s .pre .0 .0) (l .inv) (tested .before .before .loop-test .taken) shut (asked .find-cells .result) (asked .find-cells .ensures) (c .if2 .taken)) (refl, refl)
 
 mark-mines-requires : tie.Need-mark-mines-requires Inv-loop μ-loop
 mark-mines-requires c κs =
     let asked = c .before .before .before .before .before .before in
     let l = asked .before .before .before .before .before .before .loop in
-    let s = asked .before .before .before .before .before .before .before .before .before in
+    let s = called (asked .before .before .before .before .before .before) in
     let found = asked .find-cells .ensures in
     ((found .mines-long, found .few-mines), rw (position-board (s .pre .0 .0) (l .inv) .whole) (found .mines-below))
 
-refresh-board-requires : tie.Need-refresh-board-requires Inv-loop μ-loop
-refresh-board-requires c κs =
+refresh-board-requires-2 : tie.Need-refresh-board-requires-2 Inv-loop μ-loop
+refresh-board-requires-2 c κs =
     let marked = c .before .before .before .before in
     let asked = marked .before .before .before .before .before .before .before in
     let l = asked .before .before .before .before .before .before .loop in
-    let s = asked .before .before .before .before .before .before .before .before .before in
+    let s = called (asked .before .before .before .before .before .before) in
     let r = asked .find-cells .result in
     let found = asked .find-cells .ensures in (
       (s .pre .0 .0, marked-board (s .pre .0 .0) (l .inv) _ (take (r .«mine_count») (r .mines)) (marked .mark-mines .ensures)),
@@ -89,13 +133,14 @@ add-rounds : tie.Need-add-rounds Inv-loop μ-loop
 add-rounds c =
     let tested = c .before .before .before .before .before .before .before .before .before .before .before .before .before .before .before .before .before .before in
     let l = tested .before .before .before .loop in
-    let s = tested .before .before .before .before .before .before in
+    let s = called (tested .before .before .before) in
     omega (arith, few-rounds (s .pre .0 .0) (l .inv) (tested .before .before .loop-test .taken))
 
 add-k : tie.Need-add-k Inv-loop μ-loop
 add-k c =
     let tested = c .before .before .before .before .before .before .before .before .before .before .before .before .before .before .before .before .before .before in
-    omega (arith, tested .before .before .loop-test .taken)
+    let s = called (tested .before .before .before) in
+    omega (arith, few (s .pre .0 .0), tested .before .before .loop-test .taken)
 
 loop-less : tie.Need-loop-less Inv-loop μ-loop
 loop-less c = search needs
@@ -107,25 +152,30 @@ loop-again c =
     let asked = marked .before .before .before .before .before .before .before in
     let tested = asked .before .before .before in
     let l = tested .before .before .before .loop in
-    let s = tested .before .before .before .before .before .before in
+    let s = called (tested .before .before .before) in
     let shut = sym (tested .all-open .ensures) ∙ asked .before .before .if1 .left in
     found-cells (s .pre .0 .0) (l .inv) (tested .before .before .loop-test .taken) shut (asked .find-cells .result) (asked .find-cells .ensures)
-    (s .pre .1 .0) (marked .before .before .before .if2 .left) _ (marked .mark-mines .ensures) _ (flooded .refresh-board .ensures) _ (c .greater .ensures)
+    (s .pre .1 .0) (marked .before .before .before .if2 .left) _ (marked .mark-mines .ensures) _ (flooded .refresh-board2 .ensures) _ (c .greater .ensures)
 
 all-open-requires-2 : tie.Need-all-open-requires-2 Inv-loop μ-loop
 all-open-requires-2 c κs =
-    let s = c .before .before .before .before .before in
+    let s = called (c .before .before) in
     same-cells (s .pre .0 .0) (c .before .before .loop .inv)
 
-same-length-3 : tie.Need-same-length-3 Inv-loop μ-loop
-same-length-3 c = search needs
+same-length-5 : tie.Need-same-length-5 Inv-loop μ-loop
+same-length-5 c = search needs
+
+same-length-6 : tie.Need-same-length-6 Inv-loop μ-loop
+same-length-6 c = as-long (c .before .before .before)
 
 returns-3 : tie.Need-returns-3 Inv-loop μ-loop
 returns-3 c =
-    let s = c .before .before .before .before .before .before in
+    let s = called (c .before .before .before) in
     let near = neighbours (s .args .rows) (s .args .columns) in
     let l = c .before .before .before .loop in
-    rw (ends-last near (s .args .board .now) (threeRules near) (l .inv) (c .before .before .loop-test .left), c .all-open2 .ensures) (refl, refl)
+    let on = s .pre .1 .1 in
+    let begins = first-passes (s .pre .0 .0) (s .args .start) (on .0) (on .1) (s .pre .1 .0) (on .2) (begun (c .before .before .before) .refresh-board .ensures) in
+    rw (begins, ends-last near (s .args .board .now) (threeRules near) (l .inv) (c .before .before .loop-test .left), c .all-open2 .ensures) (refl, refl)
 
 pub run-passes-spec : {M : Type 1} → statement M
 run-passes-spec =
@@ -133,21 +183,28 @@ run-passes-spec =
     (tie.spec
     Inv-loop
     μ-loop
+    cast-list
+    array-write-list
+    refresh-board-requires
+    copy-cells-requires
     loop-holds
     all-open-requires
     same-length
+    same-length-2
     returns
     find-cells-requires
     add-if2
-    same-length-2
+    same-length-3
+    same-length-4
     returns-2
     mark-mines-requires
-    refresh-board-requires
+    refresh-board-requires-2
     greater-requires
     add-rounds
     add-k
     loop-less
     loop-again
     all-open-requires-2
-    same-length-3
+    same-length-5
+    same-length-6
     returns-3)

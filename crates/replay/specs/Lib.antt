@@ -1,0 +1,2 @@
+-- Stored answers, and what a run says of them.
+pub mod Stored
