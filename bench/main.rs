@@ -183,7 +183,7 @@ fn patterns(random: &mut Random, rows: usize, columns: usize, mines: usize, coun
 
 // ---- verdicts ----
 
-/// Yes or no, opened cells, grade and rounds by the Rust's functions in document 01's loop.
+/// Yes or no, opened cells, grade and rounds by the Rust's functions in the loop of SPECIFICATION 9.
 fn rust_verdict(b: &Board) -> [u64; 4] {
     let v = verdict(&b.grid, b.start);
     [v.yes as u64, v.opened as u64, v.grade as u64, v.rounds as u64]

@@ -1,4 +1,4 @@
-/* Judges boards, deduces, lists a table and is refused, and prints what it is answered. Each answer is checked against document 01's small boards: the exit
+/* Judges boards, deduces, lists a table and is refused, and prints what it is answered. Each answer is checked against the small boards of SPECIFICATION 12: the exit
  * status is 1 where one is wrong. */
 #include "lihvompa.h"
 #include <stdio.h>

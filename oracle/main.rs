@@ -1,11 +1,11 @@
-// The Rust as oracle: the functions of ms-toollib that document 01 names are included unchanged (see build); everything in this file
-// is glue and printing, verdict.rs is document 01's loop of passes. It reads lines from standard input and prints, a line each, what the named function answers.
+// The Rust as oracle: the functions of ms-toollib that SPECIFICATION 15.1 names are included unchanged (see build); everything in this file
+// is glue and printing, verdict.rs is the loop of passes of SPECIFICATION 9. It reads lines from standard input and prints, a line each, what the named function answers.
 //
 //   oracle frontier | direct | minus | enumerate | table        lines `R C v v v ...`, a position
 //   oracle enumerate-rust                                       the same, with the Rust's own lists (docs/DIFFERENCES.md)
 //   oracle pattern                                              lines `R C v v v ...`, a board, 255 a mine
 //   oracle is_solvable | verdict                                lines `R C r c v v v ...`, a board and its start
-//   oracle judge [--pictures]                                   records of document 01 from standard input
+//   oracle judge [--pictures]                                   records (SPECIFICATION 5.1) from standard input
 //
 // A line or record at which the Rust panics is answered `panic`. Each line goes out at once, so that one who stops waiting has all lines before.
 use std::io::{BufRead, Read, Write};
@@ -39,7 +39,7 @@ fn numbers_right(board: &Grid) -> bool {
     true
 }
 
-/// Rows, columns, start row, start column and cells, tested in document 01's order: the verdict, or the refusal.
+/// Rows, columns, start row, start column and cells, tested in the order of SPECIFICATION 3: the verdict, or the refusal.
 fn judged(head: &[i64], cells: &[i64]) -> Result<Verdict, usize> {
     let (rows, columns, row, column) = (head[0], head[1], head[2], head[3]);
     if rows < 1 || columns < 1 || rows > 32 || columns > 32 {

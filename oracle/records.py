@@ -1,4 +1,4 @@
-"""Random boards with a start for comparisons, from a seed, as records of document 01 and as lines of numbers: sizes from 1 x 1 to 32 x 32, all densities,
+"""Random boards with a start for comparisons, from a seed, as records (SPECIFICATION 5.1) and as lines of numbers: sizes from 1 x 1 to 32 x 32, all densities,
 starts on safe cells, zeros and mines and the open start 255,255; boards with faults, one or several; every board of a size; and damaged streams of records."""
 import itertools
 

@@ -1,9 +1,9 @@
-// Document 01's verdict over the Rust's functions: its loop of passes, and its words about enumeration on the Rust's counts. The oracle and the benchmark both
+// The verdict of SPECIFICATION 9 over the Rust's functions: its loop of passes, and enumeration by 8.6 on the Rust's counts. The oracle and the benchmark both
 // include this file behind shim.rs.
 type Grid = Vec<Vec<i32>>;
 type Cell = (usize, usize);
 
-// ---- enumeration by document 01's words, in the Rust's order, on the Rust's counts ----
+// ---- enumeration by SPECIFICATION 8.6, in the Rust's order, on the Rust's counts ----
 
 /// The safe cells and the mines, or None where a block has no solution.
 fn enumerate(a: &Vec<Vec<Vec<i32>>>, x: &Vec<Vec<Cell>>, b: &Vec<Vec<i32>>) -> Option<(Vec<Cell>, Vec<Cell>)> {
@@ -29,7 +29,7 @@ fn enumerate(a: &Vec<Vec<Vec<i32>>>, x: &Vec<Vec<Cell>>, b: &Vec<Vec<i32>>) -> O
     Some((safe, mines))
 }
 
-// ---- the verdict of document 01 over the Rust's functions ----
+// ---- the verdict of SPECIFICATION 9 over the Rust's functions ----
 
 struct Verdict {
     yes: bool,

@@ -1,4 +1,4 @@
--- The calls by name, and what each answers to a line. Assumes nothing.
+-- Cited by no public contract. The calls by name, and what each answers to a line. Assumes nothing.
 use mathlib.Core.List.{List}
 use Prim.Native.Nat.{ℕ}
 use Rattle.frontier_lines.specs.Frontier.{frontierLine}

@@ -1,4 +1,4 @@
--- The block set as the code holds it: one struct of flat arrays (document 01, "a block set is one record of fixed arrays"). Cells stand block after
+-- The block set as the code holds it: one struct of flat arrays (SPECIFICATION 14.5). Cells stand block after
 -- block, equations too, each with eight slots for its cells; ends tell where a block's cells and equations stop. Slots past the ends are 0, or 65535 where
 -- a cell could stand in an equation, so the whole struct is a function of its blocks. Assumes nothing.
 use mathlib.Core.Path.{_≡_}

@@ -1,4 +1,4 @@
--- Blocks of equations (document 01, "Reading the frontier"): a block has its closed cells in an order of its own and its equations in order, the
+-- Blocks of equations (SPECIFICATION 7.2): a block has its closed cells in an order of its own and its equations in order, the
 -- cells of an equation in the block's order. A remainder is from -8 to 8; `rest` is the remainder plus 8. Assumes nothing.
 use mathlib.Core.List.{List}
 use Prim.Native.Nat.{ℕ}

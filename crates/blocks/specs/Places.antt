@@ -1,5 +1,5 @@
--- What functions over the arrays of a block set are told. Cells are marked in an array of bytes, 1 for a cell of a list and 0 for any other; a block's
--- cells and equations stand between two places of the arrays; and blocks are put behind those that a set holds. Assumes nothing.
+-- Cited by no public contract. What functions over the arrays of a block set are told. Cells are marked in an array of bytes, 1 for a cell of a list and 0 for
+-- any other; a block's cells and equations stand between two places of the arrays; and blocks are put behind those that a set holds. Assumes nothing.
 use mathlib.Core.Path.{_≡_}
 use mathlib.Core.Bool.{Bool, true}
 use mathlib.Core.List.{List, _++_, map}

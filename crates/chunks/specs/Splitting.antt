@@ -1,5 +1,5 @@
--- What the functions that split one block are told and tell: marks change as a list of cells does, and a part is read by its marks, from the last place to
--- the first. Assumes nothing.
+-- Cited by no public contract. What the functions that split one block are told and tell: marks change as a list of cells does, and a part is read by its
+-- marks, from the last place to the first. Assumes nothing.
 use mathlib.Core.Path.{_≡_}
 use mathlib.Core.Bool.{Bool, false, cond}
 use mathlib.Core.List.{List, [], _∷_, map, reverse}

@@ -1,5 +1,5 @@
--- What the functions that write a block are told and tell each other. The place of a cell, one more than where it stands among the cells, tells whether the
--- block has it and in which order an equation's cells come. Assumes nothing.
+-- Cited by no public contract. What the functions that write a block are told and tell each other. The place of a cell, one more than where it stands among
+-- the cells, tells whether the block has it and in which order an equation's cells come. Assumes nothing.
 use mathlib.Core.Path.{_≡_}
 use mathlib.Core.Bool.{cond}
 use mathlib.Core.List.{List, [], _∷_}

@@ -1,4 +1,4 @@
--- The definitions, computed on small boards (document 01, "Small boards by hand"): the solver, and the judge with the rule that tries every layout.
+-- The definitions, computed on small boards (SPECIFICATION 12): the solver, and the judge with the rule that tries every layout.
 -- The neighbours are those of `Rattle.grid`. Assumes nothing.
 use mathlib.Core.Path.{_≡_, refl}
 use mathlib.Core.Bool.{true, false}

@@ -1,4 +1,4 @@
--- Boards (document 01, "Board and position"): a cell is 0 to 8, or 255 for a mine; a safe cell isn't 255. Assumes nothing.
+-- Boards (SPECIFICATION 2.2, 2.5): a cell is 0 to 8, or 255 for a mine; a safe cell isn't 255. Assumes nothing.
 use mathlib.Core.Path.{_≡_}
 use mathlib.Core.Logic.{_≢_}
 use mathlib.Core.Bool.{Bool}

@@ -1,4 +1,4 @@
--- The equations that a position gives (document 01, "Reading the frontier"): the closed neighbours of an open cell hold its number less its
+-- The equations that a position gives (SPECIFICATION 7.1): the closed neighbours of an open cell hold its number less its
 -- neighbouring known mines. The remainder may be negative, so an equation keeps both numbers and no difference is formed. Assumes nothing.
 use mathlib.Core.Path.{_≡_}
 use mathlib.Core.Bool.{Bool, _&&_}

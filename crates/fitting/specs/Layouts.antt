@@ -1,4 +1,4 @@
--- Layouts of mines, and which of them fit a position (Kaye, "Minesweeper is NP-complete"; document 01, "Board and position"). A layout is a list of
+-- Layouts of mines, and which of them fit a position (Kaye, "Minesweeper is NP-complete"; SPECIFICATION 2.6). A layout is a list of
 -- Bools, true at a mine. `near` gives the neighbours of a cell: nothing is asked of it here, so every kind of board has this text. Assumes nothing.
 use mathlib.Core.Path.{_≡_}
 use mathlib.Core.Logic.{_⊎_}
@@ -14,7 +14,7 @@ use Rattle.grid.specs.Cells.{shows}
 abbrev pub mineAt : List Bool → ℕ → Bool
 mineAt m c = getD m c false
 
--- 01's "fits": mines only on closed cells and known mines, one on each known mine, and each open cell has its number of neighbouring mines
+-- the layout fits: mines only on closed cells and known mines, one on each known mine, and each open cell has its number of neighbouring mines
 pub record Fits (near : ℕ → List ℕ) (p : List ℕ) (m : List Bool) : Type 0 where
   pub sized : length m ≡ length p
   pub only : (c : ℕ) → mineAt m c ≡ true → (shows p c ≡ 10) ⊎ (shows p c ≡ 11)

@@ -1,4 +1,4 @@
--- The verdict's passes over any rule (document 01, "The three rules", last paragraphs, after is_solvable): the start is opened, then passes mark the
+-- The verdict's passes over any rule (SPECIFICATION 9.1 to 9.3, after is_solvable): the start is opened, then passes mark the
 -- mines and open the safe cells that the rule finds, until all safe cells are open or a pass finds nothing. Assumes nothing.
 use mathlib.Core.Bool.{Bool, true, false, cond, _&&_, _||_}
 use mathlib.Core.List.{List, [], _∷_, _++_}

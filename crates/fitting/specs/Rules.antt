@@ -1,4 +1,4 @@
--- What demand 3 asks of a rule on the board b, at each position that the board's own layout fits. Assumes nothing.
+-- Cited by no public contract. What demand 3 asks of a rule on the board b, at each position that the board's own layout fits. Assumes nothing.
 use mathlib.Core.Path.{_≡_}
 use mathlib.Core.Bool.{Bool, true, false}
 use mathlib.Core.List.{List}

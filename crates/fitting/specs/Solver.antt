@@ -1,4 +1,4 @@
--- The solver of demand 3 (document 01, "The solver of demand 3"). It has a position of its own, which each ask may change and nothing else does;
+-- The solver of demand 3 (SPECIFICATION 6). It has a position of its own, which each ask may change and nothing else does;
 -- an opened 0 opens no neighbour, and the mine total plays no part. Assumes nothing.
 use mathlib.Core.Path.{_≡_}
 use mathlib.Core.Bool.{Bool, cond, _&&_}

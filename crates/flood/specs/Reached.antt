@@ -1,5 +1,5 @@
--- The cells that a flood opens, said without an order: the closed cells of the list, and from each 0 among them its closed neighbours, and so on.
--- Assumes nothing.
+-- Cited by no public contract. The cells that a flood opens, said without an order: the closed cells of the list, and from each 0 among them its closed
+-- neighbours, and so on. Assumes nothing.
 use mathlib.Core.Path.{_≡_}
 use mathlib.Core.Bool.{true}
 use mathlib.Core.List.{List}

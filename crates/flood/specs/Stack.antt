@@ -1,5 +1,5 @@
--- The flood's stack: the opened cells whose neighbours are still to be looked at. What opening cells makes of a position and of the stack, and what the
--- functions that open cells are told and tell of them. Assumes nothing.
+-- Cited by no public contract. The flood's stack: the opened cells whose neighbours are still to be looked at. What opening cells makes of a position and of
+-- the stack, and what the functions that open cells are told and tell of them. Assumes nothing.
 use mathlib.Core.Path.{_≡_}
 use mathlib.Core.Logic.{_≢_}
 use mathlib.Core.Bool.{true, cond}

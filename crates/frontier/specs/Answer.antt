@@ -1,4 +1,4 @@
--- The answer of refresh_matrixs: refusals 1 to 3 of document 01's table, each with no block; else the blocks of the position, inside_cell and
+-- The answer of refresh_matrixs: refusals 1 to 3 of SPECIFICATION 3.1, each with no block; else the blocks of the position, inside_cell and
 -- is_minenum. Assumes nothing.
 use mathlib.Core.List.{List, []}
 use Prim.Native.Nat.{ℕ}

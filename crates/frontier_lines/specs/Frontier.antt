@@ -1,4 +1,4 @@
--- The answer of refresh_matrixs to a line: `inside 1 mines 0 blocks 1 [1 | 1=1]`, `refused 2`, or `unreadable`. Assumes nothing.
+-- Cited by no public contract. The answer of refresh_matrixs to a line: `inside 1 mines 0 blocks 1 [1 | 1=1]`, `refused 2`, or `unreadable`. Assumes nothing.
 use mathlib.Core.Bool.{cond}
 use mathlib.Core.List.{List, [], _∷_, _++_}
 use Prim.Native.Nat.{ℕ}

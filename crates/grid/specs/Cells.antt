@@ -1,4 +1,4 @@
--- Boards and positions (document 01, "Board and position"): lists of bytes, row by row, so that the cell of a row and a column stands at
+-- Boards and positions (SPECIFICATION 2.1 to 2.3): lists of bytes, row by row, so that the cell of a row and a column stands at
 -- row × columns + column, the cell's number. Assumes nothing.
 use mathlib.Core.Bool.{Bool, _&&_, _||_}
 use mathlib.Core.List.{List}

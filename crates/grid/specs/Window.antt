@@ -1,4 +1,4 @@
--- The neighbour window (document 01: "Neighbours are the up to eight touching cells"). This is the only place that knows which cells touch:
+-- The neighbour window (SPECIFICATION 2.4). This is the only place that knows which cells touch:
 -- every other definition takes the neighbours of a cell as a function `near` from a cell's number to a list. Assumes nothing.
 use mathlib.Core.Path.{_≡_}
 use mathlib.Core.List.{List, [], _∷_, _++_, map}

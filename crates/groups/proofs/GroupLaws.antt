@@ -1,4 +1,4 @@
--- What groups are (document 01, "Solution table"): they part a block's cells; two cells are of one group exactly if their columns are equal; a group is
+-- What groups are (SPECIFICATION 11.1): they part a block's cells; two cells are of one group exactly if their columns are equal; a group is
 -- named by its first cell, and the groups stand in the order of these; none is empty, and none has more cells than an equation that has its first cell.
 -- The idea: having equal columns is an equivalence, and `firsts` has the first cell of each class. Rests on FirstsOfClasses. Assumes nothing.
 use mathlib.Core.Path.{_≡_, sym, ap, _∙_}

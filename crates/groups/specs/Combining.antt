@@ -1,4 +1,5 @@
--- What the functions of combine tell each other: the columns of cells in an array of slots, and the groups of some cells in three arrays. Assumes nothing.
+-- Cited by no public contract. What the functions of combine tell each other: the columns of cells in an array of slots, and the groups of some cells in three
+-- arrays. Assumes nothing.
 use mathlib.Core.Path.{_≡_}
 use mathlib.Core.Bool.{Bool, cond}
 use mathlib.Core.List.{List, [], _∷_, _++_, map}

@@ -1,4 +1,4 @@
--- The struct that the code keeps of a block over its groups, and the blocks for which it does. Assumes nothing.
+-- Cited by no public contract. The struct that the code keeps of a block over its groups, and the blocks for which it does. Assumes nothing.
 use mathlib.Core.Path.{_≡_}
 use mathlib.Core.Bool.{true, false, cond, _&&_}
 use mathlib.Core.List.{map}

@@ -1,4 +1,4 @@
--- combine (document 01, "Solution table"): cells of a block with equal columns, that is, cells that the same equations have, form a group, named by the
+-- combine (SPECIFICATION 11.1): cells of a block with equal columns, that is, cells that the same equations have, form a group, named by the
 -- first; groups stand in the order of their first cells. Each equation is then one over groups. Assumes nothing.
 use mathlib.Core.Bool.{Bool, cond}
 use mathlib.Core.List.{List, [], _∷_, _++_, map}

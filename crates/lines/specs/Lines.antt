@@ -1,5 +1,6 @@
--- A line of decimal numbers as a position or a board: rows, columns, then the cells row by row; or as a board with its start: rows, columns, start row, start
--- column, then the cells. A line with anything else in it, or with fewer than these two or four numbers, is unreadable. Assumes nothing.
+-- Cited by no public contract. A line of decimal numbers as a position or a board: rows, columns, then the cells row by row; or as a board with its start:
+-- rows, columns, start row, start column, then the cells. A line with anything else in it, or with fewer than these two or four numbers, is unreadable.
+-- Assumes nothing.
 use mathlib.Core.Bool.{Bool, true, false, cond}
 use mathlib.Core.List.{List, [], _∷_, map}
 use Prim.Native.Nat.{ℕ, zero, suc}

@@ -1,5 +1,5 @@
--- What the functions of the two rules are told and tell. Cells found are marked in arrays of bytes; what is left of a block, and the lists, are read by
--- these marks; and a list is held in an array with a count, each of its cells marked. Assumes nothing.
+-- Cited by no public contract. What the functions of the two rules are told and tell. Cells found are marked in arrays of bytes; what is left of a block, and
+-- the lists, are read by these marks; and a list is held in an array with a count, each of its cells marked. Assumes nothing.
 use mathlib.Core.Path.{_≡_}
 use mathlib.Core.Bool.{Bool, true, not, cond, _&&_, _||_}
 use mathlib.Core.List.{List, [], _∷_, map, reverse}

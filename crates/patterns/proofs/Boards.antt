@@ -1,6 +1,6 @@
 -- Boards worked out by the definition. On a board of 8 rows and 8 columns each shape stands in the middle, at the top, the bottom, the left and the right, and in the
 -- corners top left, top right, bottom left and bottom right, in this order; and it is the only pattern of its board, since without the first mine there is none. And the
--- answers to document 01's case 9 and to boards that are refused. All by computation. Assumes nothing.
+-- answers to SPECIFICATION 12.9 and to boards that are refused. All by computation. Assumes nothing.
 use mathlib.Core.Path.{_≡_, refl}
 use mathlib.Core.Bool.{Bool, true, not, cond, _&&_}
 use mathlib.Core.List.{List, [], _∷_, map}

@@ -1,4 +1,4 @@
--- The shapes that the pattern answer looks for (document 01: "the shapes become a table of offsets and required values"), and where one is found. The
+-- The shapes that the pattern answer looks for (SPECIFICATION 10.1, 14.2), and where one is found. The
 -- board stands in a frame of mines one cell wide. Rows and columns are counted from the frame's, so the board's first cell is at 1, 1. A shape is laid by
 -- its anchor, which may lie on the frame: it fits where its anchor is a mine and each other cell of it has what the table asks for. Assumes nothing.
 use mathlib.Core.Bool.{Bool, not, cond, _&&_, _||_}

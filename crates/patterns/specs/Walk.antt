@@ -1,5 +1,6 @@
--- What the functions that look for the shapes are told: the board laid out in 32 rows of 32, and tables, whose entries are the cells of shapes one after
--- another. An entry leads, for the case that its cell has something else than it asks for, past the shapes that ask for the same cell. Assumes nothing.
+-- Cited by no public contract. What the functions that look for the shapes are told: the board laid out in 32 rows of 32, and tables, whose entries are the
+-- cells of shapes one after another. An entry leads, for the case that its cell has something else than it asks for, past the shapes that ask for the same
+-- cell. Assumes nothing.
 use mathlib.Core.Bool.{Bool, true, false, cond, _&&_, _||_}
 use mathlib.Core.List.{List, [], _∷_}
 use mathlib.Core.Path.{_≡_}

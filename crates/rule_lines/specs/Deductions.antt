@@ -1,5 +1,5 @@
--- The answers of the calls that deduce to a line: `safe 1,5 mine 5 pos 0 12 0 1 1 11`, behind it the blocks left, ` blocks 0`, where the rule hands them out;
--- `refused 6`, or `unreadable`. Each list that is lent has room for 1024 cells. Assumes nothing.
+-- Cited by no public contract. The answers of the calls that deduce to a line: `safe 1,5 mine 5 pos 0 12 0 1 1 11`, behind it the blocks left, ` blocks 0`,
+-- where the rule hands them out; `refused 6`, or `unreadable`. Each list that is lent has room for 1024 cells. Assumes nothing.
 use mathlib.Core.Bool.{cond}
 use mathlib.Core.List.{List, [], _∷_, _++_}
 use Prim.Native.Nat.{ℕ, _≤_}

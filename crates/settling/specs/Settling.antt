@@ -1,5 +1,5 @@
--- What the functions that settle groups are told and tell: which values the equations of a group leave it, and that with some groups settled the search over the
--- others gives all that the search over all groups gives. Assumes nothing.
+-- Cited by no public contract. What the functions that settle groups are told and tell: which values the equations of a group leave it, and that with some
+-- groups settled the search over the others gives all that the search over all groups gives. Assumes nothing.
 use mathlib.Core.Path.{_≡_}
 use mathlib.Core.Bool.{true}
 use mathlib.Core.List.{List, _++_, map}

@@ -1,5 +1,6 @@
--- Block sets as text: `blocks 1 [1,5 | 0=1 | -1=1,5]` is a block with the cells 1 and 5 and two equations, each with its remainder and its cells; `-` is
--- an empty list. The functions that write a block are lent the arrays of the block set, so the block at a place is named by these too. Assumes nothing.
+-- Cited by no public contract. Block sets as text: `blocks 1 [1,5 | 0=1 | -1=1,5]` is a block with the cells 1 and 5 and two equations, each with its
+-- remainder and its cells; `-` is an empty list. The functions that write a block are lent the arrays of the block set, so the block at a place is named by
+-- these too. Assumes nothing.
 use mathlib.Core.Path.{_≡_}
 use mathlib.Core.Bool.{cond}
 use mathlib.Core.List.{List, [], _∷_, _++_, map}

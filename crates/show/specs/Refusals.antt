@@ -1,4 +1,4 @@
--- A refusal as text: `refused 2`. Assumes nothing.
+-- Cited by no public contract. A refusal as text: `refused 2`. Assumes nothing.
 use mathlib.Core.List.{List, [], _∷_, _++_}
 use Prim.Native.Nat.{ℕ}
 use Rattle.text.specs.Text.{decimal}

@@ -1,5 +1,5 @@
--- What the functions that read the sources tell, and what those that build blocks of them are told: the lists that their scratch arrays hold. Assumes
--- nothing.
+-- Cited by no public contract. What the functions that read the sources tell, and what those that build blocks of them are told: the lists that their scratch
+-- arrays hold. Assumes nothing.
 use mathlib.Core.Path.{_≡_}
 use mathlib.Core.Bool.{Bool, true, cond, _&&_}
 use mathlib.Core.List.{List, []}

@@ -1,4 +1,4 @@
--- solve_minus on blocks (document 01, "The three rules"): of two equations that share a cell, where the one has as many own cells as it has mines more,
+-- solve_minus on blocks (SPECIFICATION 8.4, 8.5): of two equations that share a cell, where the one has as many own cells as it has mines more,
 -- these are mines and the other's own cells are safe. All pairs are read before a cell is taken out; the lists of a block are in its cell order. A block
 -- that this empties is dropped, a direct pass follows, and blocks are split a second time. Assumes nothing.
 use mathlib.Core.Bool.{Bool, not, cond, _&&_, _||_}

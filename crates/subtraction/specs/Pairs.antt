@@ -1,5 +1,5 @@
--- What the functions of subtraction are told and tell: equations at their places, no cell twice in one; what all pairs of a set tell, in arrays; and the lists
--- that the rule finds, in the struct that a verdict reads. Assumes nothing.
+-- Cited by no public contract. What the functions of subtraction are told and tell: equations at their places, no cell twice in one; what all pairs of a set
+-- tell, in arrays; and the lists that the rule finds, in the struct that a verdict reads. Assumes nothing.
 use mathlib.Core.Path.{_≡_}
 use mathlib.Core.Bool.{Bool, true, _&&_}
 use mathlib.Core.List.{List, _++_}

@@ -1,5 +1,5 @@
--- What the functions of the passes are told and tell. A pass asks of the lists that a rule finds only which cells they have, and of the rule its grade.
--- Assumes nothing.
+-- Cited by no public contract. What the functions of the passes are told and tell. A pass asks of the lists that a rule finds only which cells they have, and
+-- of the rule its grade. Assumes nothing.
 use mathlib.Core.Path.{_≡_}
 use mathlib.Core.Bool.{Bool, true, not, cond, _&&_}
 use Prim.Native.Nat.{ℕ, _≤_}

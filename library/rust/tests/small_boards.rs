@@ -1,4 +1,4 @@
-//! Document 01's small boards, 1 to 11, its record example and its refusals, and boards worked out by hand, through the safe functions.
+//! The small boards of SPECIFICATION 12, the record example (5.4) and the refusals (3.1), and boards worked out by hand, through the safe functions.
 use lihvompa::{direct, enumerate, frontier, minus, pattern, table, verdict, Deduction, Frontier, Refusal, FIRST_ZERO};
 
 fn found(safe: &[u16], mines: &[u16], position: &[u8]) -> Result<Deduction, Refusal> {
