@@ -1,4 +1,5 @@
--- The answer of unsolvable_structure to a line: `true` where a pattern is found, `false` where none is, `refused 1`, or `unreadable`. Assumes nothing.
+-- Cited by no public contract. The answer of unsolvable_structure to a line: `true` where a pattern is found, `false` where none is, `refused 1`, or
+-- `unreadable`. Assumes nothing.
 use mathlib.Core.Bool.{cond}
 use mathlib.Core.List.{List, [], _∷_}
 use Prim.Native.Nat.{ℕ}

@@ -1,5 +1,5 @@
--- The answer of is_solvable to a line with a start: `yes 2 0 0 picture 1 10`, the verdict, the opened cells, the grade, the rounds and the picture; `no` with the
--- same, `refused 5`, or `unreadable`. The picture that is lent has as many bytes as the line has cells. Assumes nothing.
+-- Cited by no public contract. The answer of is_solvable to a line with a start: `yes 2 0 0 picture 1 10`, the verdict, the opened cells, the grade, the
+-- rounds and the picture; `no` with the same, `refused 5`, or `unreadable`. The picture that is lent has as many bytes as the line has cells. Assumes nothing.
 use mathlib.Core.Bool.{cond}
 use mathlib.Core.List.{List, [], _∷_, _++_}
 use Prim.Native.Nat.{ℕ}

@@ -1,2 +1,3 @@
--- The theorem of document 01's small boards.
+-- The theorem of the small boards (SPECIFICATION 12), and that of the printed example (5.4).
 pub mod Cases
+pub mod Printed

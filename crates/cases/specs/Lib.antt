@@ -1,2 +1,2 @@
--- The table of document 01's small boards.
+-- The table of the small boards (SPECIFICATION 12).
 pub mod Table

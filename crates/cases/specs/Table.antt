@@ -1,5 +1,5 @@
--- Document 01, "Small boards by hand": one table, each line with what is asked and what the answer must be. Boards are written cell by cell, row
--- after row. Assumes nothing.
+-- Cited by no public contract. The small boards of SPECIFICATION 12: one table, each line with what is asked and what the answer must be. Boards are written
+-- cell by cell, row after row. Assumes nothing.
 use mathlib.Core.Bool.{Bool, true, false, cond, _&&_, Bool·beq}
 use mathlib.Core.List.{List, [], _∷_, _++_}
 use Prim.Native.Nat.{ℕ, _+_, _-_, _*_}

@@ -1,1 +1,1 @@
-// Document 01's small boards: one table in specs/, one theorem in proofs/, and no code.
+// The small boards of SPECIFICATION 12: one table in specs/, one theorem in proofs/, and no code.

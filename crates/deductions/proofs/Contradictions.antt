@@ -171,7 +171,7 @@ module _ (near : ℕ → List ℕ) (p : List ℕ) where
 
 -- ---- small positions
 
--- of document 01's cases 1 to 7 the direct rule refuses the third alone
+-- of the positions 12.1 to 12.7 of SPECIFICATION the direct rule refuses the third alone
 pub direct-cases : (isContradictoryAt (neighbours 1 3) (1 ∷ 10 ∷ 10 ∷ []) ≡ false)
     × (isContradictoryAt (neighbours 1 2) (0 ∷ 10 ∷ []) ≡ false)
     × (isContradictoryAt (neighbours 1 3) (11 ∷ 0 ∷ 10 ∷ []) ≡ true)

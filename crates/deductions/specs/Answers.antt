@@ -1,4 +1,4 @@
--- The calls on a position (document 01): what a caller sees of a rule's answer, refusals first, and the three calls. Assumes nothing.
+-- The calls on a position (SPECIFICATION 4.3 and 8): what a caller sees of a rule's answer, refusals first, and the three calls. Assumes nothing.
 use mathlib.Core.Path.{_≡_}
 use mathlib.Core.Bool.{Bool, true, cond}
 use mathlib.Core.List.{List, [], map}

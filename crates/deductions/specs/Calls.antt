@@ -1,4 +1,4 @@
--- What a call on a position means to its caller, in Rattle and in C (demand 2; document 01, "Verdict, deductions, table, and what is refused" and "The three rules"). Each
+-- What a call on a position means to its caller, in Rattle and in C (SPECIFICATION 1.3, 4.3 and 8). Each
 -- cell that it lists is so in every layout that fits the position, it marks just these cells, and a refusal keeps every lent byte; enumeration, where some layout
 -- fits, lists each closed cell beside an open one that is the same in all. Throughout, p, s and m are the position and the two list slices as they were lent,
 -- p′, s′ and m′ are these after the call, `number` is 0 or the refusal's number, and `safe` and `mines` are the counts of the two lists. Assumes nothing.

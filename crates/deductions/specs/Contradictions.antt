@@ -1,4 +1,4 @@
--- Refusal 6 of the calls in words of the position: no block, no group and no order (document 01, "The three rules"). `near` gives the neighbours of a cell;
+-- Refusal 6 of the calls in words of the position: no block, no group and no order (SPECIFICATION 8.3, 8.6). `near` gives the neighbours of a cell;
 -- p, s and m are the position and the lists as they were lent, and `number` is 0 or the refusal's number. What the direct rule finds at a position stands
 -- in AtPosition of the crate rules. Of subtraction it is said only one way: a block that it empties is dropped, its remainders unread, so that blocks
 -- would have to be named. Assumes nothing.

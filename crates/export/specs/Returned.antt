@@ -1,4 +1,4 @@
--- What C and Rust see after a call: a number, which is 0 or document 01's number of the refusal; the slices that were lent for cells, in the order of the
+-- What C and Rust see after a call: a number, which is 0 or the refusal's number (SPECIFICATION 3.1); the slices that were lent for cells, in the order of the
 -- parameters; and the slice that was lent for counts. Each call's is given by what a caller in Rattle sees. Assumes nothing.
 use mathlib.Core.List.{List, [], _∷_}
 use Prim.Native.Nat.{ℕ}

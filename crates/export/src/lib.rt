@@ -1,4 +1,4 @@
-// What C and Rust call. Every call answers 0 or document 01's number of the refusal; its counts go to the front of the lent slice `counts`, as many as that
+// What C and Rust call. Every call answers 0 or the refusal's number (SPECIFICATION 3.1); its counts go to the front of the lent slice `counts`, as many as that
 // has room for. A refusal writes nothing. Numbers and slices only (a slice is a pointer and its length), and nothing is asked of the caller.
 // The first clause of a call gives the number and every lent byte, whatever room there is for counts. What demands 2 and 3 ask is said in the other clauses, of
 // the number, the slices and the first two counts, where there is room for both; when a rule refuses with 6 is said of the number alone.

@@ -32,3 +32,4 @@ pub mod Storing
 pub mod Loops
 pub mod StoredAndKept
 pub mod ReadBack
+pub mod LentParts

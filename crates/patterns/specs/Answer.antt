@@ -1,4 +1,4 @@
--- The answer of the pattern call: refusals 1 to 3 of document 01's table, else whether a pattern is found. It looks at mines only. Assumes nothing.
+-- The answer of the pattern call: refusals 1 to 3 of SPECIFICATION 3.1, else whether a pattern is found. It looks at mines only. Assumes nothing.
 use mathlib.Core.Bool.{Bool, cond}
 use mathlib.Core.List.{List, [], _∷_}
 use Prim.Native.Nat.{ℕ}
@@ -19,7 +19,7 @@ answerAfter (tests.Refused r) found = Refused r
 unfoldable pub unsolvableStructure : ℕ → ℕ → List ℕ → PatternAnswer
 unsolvableStructure rows columns b = answerAfter (patternTested rows columns b) (patternFound rows columns b)
 
--- document 01's number of an answer: 0, or the refusal's
+-- the number of an answer (SPECIFICATION 3.1): 0, or the refusal's
 abbrev pub patternNumber : PatternAnswer → ℕ
 patternNumber (Refused r) = refusalNumber r
 patternNumber NotFound = 0

@@ -1,4 +1,4 @@
--- The line that answers a record (document 01, "Board and position"): number, verdict, opened, grade, rounds; or number, `refused`, the refusal. And the verdict of a whole
+-- The line that answers a record (SPECIFICATION 5.3): number, verdict, opened, grade, rounds; or number, `refused`, the refusal. And the verdict of a whole
 -- record. Assumes nothing.
 use mathlib.Core.Bool.{Bool, cond}
 use mathlib.Core.List.{List, [], _∷_, _++_}

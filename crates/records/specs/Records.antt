@@ -1,4 +1,4 @@
--- Board records (document 01, "Board and position"): the bytes 4D 42, rows, columns, start row, start column, a byte each, then the cells row by row. In the
+-- Board records (SPECIFICATION 5.1): the bytes 4D 42, rows, columns, start row, start column, a byte each, then the cells row by row. In the
 -- program refusals 10 and 11 come first: two bytes that are no known mark are 10, and an input that ends inside a record is 11, one lone byte included.
 -- Assumes nothing.
 use mathlib.Core.Bool.{Bool, cond, _&&_}

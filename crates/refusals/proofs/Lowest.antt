@@ -1,4 +1,4 @@
--- "Lowest number first where several apply" (document 01), of each kind of call: its tests stand in the order of their numbers, so every other test
+-- Lowest number first where several apply (SPECIFICATION 3.2), of each kind of call: its tests stand in the order of their numbers, so every other test
 -- that fails has a number that isn't lower than the refusal's. Rests on `refused-lowest`. Assumes nothing.
 use mathlib.Core.Path.{_≡_, refl}
 use mathlib.Core.Bool.{true}

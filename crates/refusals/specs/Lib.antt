@@ -1,3 +1,3 @@
--- The refusals of document 01's table and the tests that give them.
+-- The refusals of SPECIFICATION 3.1 and the tests that give them.
 pub mod Refusals
 pub mod Tests

@@ -1,4 +1,4 @@
--- The refusals of document 01's table, each with its number, and the rule "lowest number first where several apply". Assumes nothing.
+-- The refusals of SPECIFICATION 3.1, each with its number, and the rule that the lowest is given where several apply (3.2). Assumes nothing.
 use mathlib.Core.Bool.{Bool, cond}
 use mathlib.Core.List.{List, [], _∷_}
 use Prim.Native.Nat.{ℕ}
@@ -7,7 +7,7 @@ use Rattle.refusals.specs.declared.Refusal.the-variants.{Size, Length, C
 use Rattle.refusals.specs.declared.Tested.{Tested}
 use Rattle.refusals.specs.declared.Tested.the-variants.{Accepted, Refused}
 
--- 01's number of a refusal
+-- the number of a refusal
 abbrev pub refusalNumber : Refusal → ℕ
 refusalNumber Size = 1
 refusalNumber Length = 2

@@ -1,5 +1,5 @@
--- The tests of refusals 1, 2, 3, 4, 5 and 7 of document 01's table, each as a Bool that is true where the input passes, and the lists of tests that
--- each kind of call makes, in 01's order. Assumes nothing.
+-- The tests of refusals 1, 2, 3, 4, 5 and 7 of SPECIFICATION 3.1, each as a Bool that is true where the input passes, and the lists of tests that
+-- each kind of call makes, in the order of 3.3. Assumes nothing.
 use mathlib.Core.Bool.{Bool, not, cond, _&&_, _||_}
 use mathlib.Core.List.{List, [], _∷_}
 use Prim.Native.Nat.{ℕ, _+_, _*_}

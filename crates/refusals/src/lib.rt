@@ -1,4 +1,4 @@
-// The refusals of document 01's table and the tests that give them. A call runs its tests in 01's order and answers the first refusal;
+// The refusals of SPECIFICATION 3.1 and the tests that give them. A call runs its tests in the order of 3.2 and answers the first refusal;
 // what a later test asks for, the earlier ones have shown. No test forms rows × columns before the size is known to be small.
 use grid::window::count_beside;
 ghost use mathlib.Core.Path.{_≡_};
@@ -9,7 +9,7 @@ ghost use Rattle.grid.specs.Window.{neighbours, Sized, Board};
 ghost use Rattle.refusals.specs.Refusals.{refusalNumber};
 ghost use Rattle.refusals.specs.Tests.{sizeOk, lengthOk, roomOk, boardCellsOk, positionCellsOk, startOk, numbersOk, zeroOk, isOpenStart, startCell, numberThenZero, boardTested, positionTested, deductionTested, patternTested};
 
-// What a call may refuse, in the order of 01's numbers.
+// What a call may refuse, in the order of their numbers.
 pub enum Refusal {
     Size,
     Length,
@@ -30,7 +30,7 @@ pub enum Tested {
     Refused(Refusal),
 }
 
-// 01's number of a refusal.
+// The number of a refusal.
 pub fn refusal_number(refusal: Refusal) -> u8
     ensures { λ r. ⌜ r ≡ refusalNumber refusal ⌝ }
 {

@@ -1,4 +1,4 @@
--- When a stored answer counts as ours, and how cases are counted. Assumes nothing.
+-- Cited by no public contract. When a stored answer counts as ours, and how cases are counted. Assumes nothing.
 use mathlib.Core.Bool.{Bool, false, cond, _&&_}
 use mathlib.Core.List.{List}
 use Prim.Native.Nat.{ℕ, _+_}

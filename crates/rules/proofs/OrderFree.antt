@@ -1,4 +1,4 @@
--- What the direct rule finds does not depend on its order (document 01). Three tests on a list of equations say it without an order: a cell is a mine
+-- What the direct rule finds does not depend on its order (SPECIFICATION 8.2). Three tests on a list of equations say it without an order: a cell is a mine
 -- where a full equation has it; it is safe where an equation that isn't full has it and has no mine besides those; and there is a contradiction where
 -- an equation has fewer than those. They look at all equations at once, so blocks do not matter either, as no cell stands in two; and two lists
 -- with the same equations, in any order of equations and cells, have the same answers. Rests on DirectLaws. Assumes nothing.

@@ -1,4 +1,5 @@
--- The structs of rules: what a rule on blocks answers, its two lists alone, and what the two sweeps of the direct rule list. Assumes nothing.
+-- Cited by no public contract. The structs of rules: what a rule on blocks answers, its two lists alone, and what the two sweeps of the direct rule list.
+-- Assumes nothing.
 use mathlib.Core.Path.{_≡_}
 use mathlib.Core.List.{List}
 use Prim.Native.Nat.{ℕ}

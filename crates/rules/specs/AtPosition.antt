@@ -1,4 +1,4 @@
--- What the direct rule finds, in words of the position: no block and no order (document 01, "The three rules"). `near` gives the neighbours of a cell, p is
+-- What the direct rule finds, in words of the position: no block and no order (SPECIFICATION 8.2, 8.3). `near` gives the neighbours of a cell, p is
 -- the position. Assumes nothing.
 use mathlib.Core.Bool.{Bool, _&&_}
 use mathlib.Core.List.{List}

@@ -1,4 +1,4 @@
--- solve_direct on blocks (document 01, "The three rules"): first the cells of the equations whose remainder is the number of their cells are mines, then
+-- solve_direct on blocks (SPECIFICATION 8.2, 8.3): first the cells of the equations whose remainder is the number of their cells are mines, then
 -- those of the equations whose remainder is 0 are safe. What an equation gives does not depend on those before it, so each sweep is said without a
 -- state; the order is that of the sweeps: equations, and the cells of each, from the last to the first, a cell where it is first met. Assumes nothing.
 use mathlib.Core.Bool.{Bool, not, cond, _||_}

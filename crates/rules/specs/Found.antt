@@ -8,7 +8,7 @@ use Rattle.blocks.specs.Blocks.{BlockEquation, Block}
 use Rattle.frontier.specs.Frontier.{frontier}
 
 pub record Found : Type 0 where
-  -- 01's refusal 6
+  -- refusal 6
   pub contradiction : Bool
   pub safe : List ℕ
   pub mines : List ℕ

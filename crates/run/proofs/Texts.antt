@@ -1,13 +1,18 @@
 -- The text of verdicts, line by line, and their tally: a line and the text of the others; a verdict and the tally of the others. Assumes nothing.
 use mathlib.Core.Path.{_≡_, refl, sym, ap, _∙_}
-use mathlib.Core.Bool.{Bool, true, false}
+use mathlib.Core.Bool.{Bool, true, false, not, cond}
 use mathlib.Core.List.{List, [], _∷_, _++_}
 use Prim.Native.Nat.{ℕ, zero, suc, _+_, _≤_, _<_}
 use native.Mathlib.Nat.{add-assoc, add-zero, zero-add}
 use native.Mathlib.Omega.{arith}
+use lib.Dec.{eqb}
 use lib.ListN.{length, length-append}
+use Rattle.lists.specs.Lists.{bit}
+use Rattle.refusals.specs.declared.Refusal.{Refusal}
+use Rattle.refusals.proofs.FirstFailure.{refusal-not-zero}
 use Rattle.verdict.specs.declared.Verdict.{Verdict}
-use Rattle.verdict.specs.declared.Verdict.the-variants.{Refused, Judged}
+use Rattle.verdict.specs.declared.Verdict.the-variants.{Refused}
+use Rattle.verdict.specs.Verdict.{verdictNumber, verdictYes}
 use Rattle.text.specs.Text.{decimal}
 use Rattle.records.specs.Answers.{verdictText, lineText}
 use Rattle.run.specs.declared.Tally.{Tally}
@@ -50,6 +55,15 @@ tally-right a = rw (add-zero (a .yes), add-zero (a .no), add-zero (a .refused))
 
 -- a verdict counts once at most in each column
 pub tally-one : (v : Verdict) → (tallyOf v .yes ≤ 1) × (tallyOf v .no ≤ 1) × (tallyOf v .refused ≤ 1)
-tally-one (Refused r) = (omega arith, omega arith, omega arith)
-tally-one (Judged true opened grade rounds) = (omega arith, omega arith, omega arith)
-tally-one (Judged false opened grade rounds) = (omega arith, omega arith, omega arith)
+tally-one v = go (eqb (verdictNumber v) 0) (verdictYes v)
+  where
+    counted : Bool → Bool → Tally
+    counted t y = cond t (record { yes = bit y; no = bit (not y); refused = 0 }) (record { yes = 0; no = 0; refused = 1 })
+
+    go : (t y : Bool) → (counted t y .yes ≤ 1) × (counted t y .no ≤ 1) × (counted t y .refused ≤ 1)
+    go true true = (omega arith, omega arith, omega arith)
+    go true false = (omega arith, omega arith, omega arith)
+    go false y = (omega arith, omega arith, omega arith)
+
+pub tally-refused : (r : Refusal) → record { yes = 0; no = 0; refused = 1 } ≡ tallyOf (Refused r)
+tally-refused r = rw (refusal-not-zero r)

@@ -1,11 +1,14 @@
--- The run of the program (document 01, "Board and position"): the whole output of the whole input. The verdicts of the input's records, one after the other; a header, and a
+-- The run of the program (SPECIFICATION 5.2, 5.3): the whole output of the whole input. The verdicts of the input's records, one after the other; a header, and a
 -- line for each verdict, numbered from 1; and how many of them say yes, say no and refuse. Assumes nothing.
-use mathlib.Core.Bool.{Bool, true, false}
+use mathlib.Core.Bool.{not, cond}
 use mathlib.Core.List.{List, [], _∷_, _++_}
 use Prim.Native.Nat.{ℕ, zero, suc, _+_}
+use lib.Dec.{eqb}
 use lib.ListN.{length, drop}
+use Rattle.lists.specs.Lists.{bit}
 use Rattle.verdict.specs.declared.Verdict.{Verdict}
-use Rattle.verdict.specs.declared.Verdict.the-variants.{Refused, Judged}
+use Rattle.verdict.specs.declared.Verdict.the-variants.{Refused}
+use Rattle.verdict.specs.Verdict.{verdictNumber, verdictYes}
 use Rattle.records.specs.declared.Record.{Record}
 use Rattle.records.specs.declared.Record.the-variants.{End, Damaged, Whole}
 use Rattle.records.specs.Records.{recordLength, recordOf, cellsIn}
@@ -53,11 +56,12 @@ printed input = textFrom 0 (verdicts input)
 
 -- ---- the summary
 
--- a verdict counts as yes, as no or as refused
+-- a verdict counts as yes or as no, and one with a refusal's number as refused
 abbrev pub tallyOf : Verdict → Tally
-tallyOf (Judged true opened grade rounds) = record { yes = 1; no = 0; refused = 0 }
-tallyOf (Judged false opened grade rounds) = record { yes = 0; no = 1; refused = 0 }
-tallyOf (Refused refusal) = record { yes = 0; no = 0; refused = 1 }
+tallyOf v =
+    cond (eqb (verdictNumber v) 0)
+    (record { yes = bit (verdictYes v); no = bit (not (verdictYes v)); refused = 0 })
+    (record { yes = 0; no = 0; refused = 1 })
 
 abbrev pub noTally : Tally
 noTally = record { yes = 0; no = 0; refused = 0 }

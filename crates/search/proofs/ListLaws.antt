@@ -1,16 +1,14 @@
--- General laws of lists that the search rests on: a test of all elements one by one, a list without repetition cut, a value set in two lists of one length, zeros, and
--- what is written at the front of a part of a list, said of the whole. Assumes nothing.
+-- General laws of lists that the search rests on: a test of all elements one by one, a list without repetition cut, a value set in two lists of one length, and
+-- zeros. Assumes nothing.
 use mathlib.Core.Path.{_≡_, refl, sym, ap, _∙_}
 use mathlib.Core.Bool.{Bool, true, false}
-use mathlib.Core.List.{List, [], _∷_, append-nil, append-assoc}
+use mathlib.Core.List.{List, [], _∷_}
 use Prim.Native.Nat.{ℕ, zero, suc, _+_, _-_, _≤_, _<_}
-use native.Mathlib.Nat.{zero-add}
 use native.Mathlib.Decide.{decLt}
 use native.Mathlib.Omega.{arith}
 use lib.Dec.{eqb}
-use lib.ListN.{length, getD, take, drop, set, length-set, length-drop, drop-of-length-le, List·getD-eq-default}
-use lib.Seq.{sets, sets-eq, take-all, drop-drop, getD-drop, getD-set-same}
-use borrow.Rule.Slice.PartMut.{putMid}
+use lib.ListN.{length, getD, drop, set, length-set, List·getD-eq-default}
+use lib.Seq.{getD-drop, getD-set-same}
 use Rattle.lists.specs.Lists.{all, nodup}
 use Rattle.lists.proofs.Members.{nodup-tail}
 
@@ -49,20 +47,3 @@ set-read a b i x e = go (decLt i (length a))
     go (no h) =
         List·getD-eq-default (set b i x) 0 (omega (arith, length-set b i x))
         ∙ sym (List·getD-eq-default (set a i x) 0 (omega (arith, length-set a i x)))
-
--- ---- the part of a list from place a on, as it is lent
-
-part-is : (t : List ℕ) (a : ℕ) → take (length t - a) (drop a t) ≡ drop a t
-part-is t a = take-all (length t - a) (drop a t) (omega (arith, length-drop a t))
-
-pub length-part : (t : List ℕ) (a : ℕ) → length (take (length t - a) (drop a t)) ≡ length t - a
-length-part t a = ap length (part-is t a) ∙ length-drop a t
-
--- what is written at its front, said of the whole
-pub part-written : (t : List ℕ) (a : ℕ) (xs ys : List ℕ) → a + length xs ≤ length t
-    → ys ≡ sets (take (length t - a) (drop a t)) 0 xs → putMid a (length t - a) t ys ≡ sets t a xs
-part-written t a xs ys h e =
-    let none : drop (a + (length t - a)) t ≡ [] = drop-of-length-le t {i = a + (length t - a)} (omega arith) in
-    let fits : 0 + length xs ≤ length (drop a t) = omega (arith, length-drop a t) in
-    rw (e, part-is t a, drop-drop, none, append-nil, sets-eq xs t a h, sets-eq xs (drop a t) 0 fits, zero-add, drop-drop)
-    (sym (append-assoc (take a t) xs (drop (a + length xs) t)))

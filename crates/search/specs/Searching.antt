@@ -1,4 +1,5 @@
--- What the functions of the search are told: the groups of an order, their sizes and columns, and the state of the equations, in arrays. Assumes nothing.
+-- Cited by no public contract. What the functions of the search are told: the groups of an order, their sizes and columns, and the state of the equations, in
+-- arrays. Assumes nothing.
 use mathlib.Core.Path.{_≡_}
 use mathlib.Core.Bool.{true, false}
 use mathlib.Core.List.{List, [], _∷_}

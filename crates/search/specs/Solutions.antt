@@ -1,4 +1,4 @@
--- The solutions of a block and the solution table (document 01): a solution gives each group a number of mines from 0 to its size with which each equation
+-- The solutions of a block and the solution table (SPECIFICATION 11): a solution gives each group a number of mines from 0 to its size with which each equation
 -- has its remainder. The table lists every solution once, groups first met in later equations weighing more, and within one equation the earlier group.
 -- Assumes nothing.
 use mathlib.Core.Bool.{Bool, cond, _&&_}

@@ -1,4 +1,4 @@
--- What a row of the solution table is, and the order of the rows (document 01, "Solution table"): a solution gives each group a mine count from 0 to its size, and rows
+-- What a row of the solution table is, and the order of the rows (SPECIFICATION 11.2 to 11.4): a solution gives each group a mine count from 0 to its size, and rows
 -- are compared with the groups in the order of their weights, the first that differs deciding. Says without a search what `solutions` lists.
 -- Assumes nothing.
 use mathlib.Core.Path.{_≡_}

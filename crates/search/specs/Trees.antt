@@ -1,6 +1,7 @@
--- The search for solutions (document 01, "Solution table"): groups are set one after another, each to a number of mines from 0 to its size. The state is,
--- for each equation, what it still needs, and how many cells its unset groups have. A value that an equation cannot take, or after which it could not get
--- what it needs, is not tried; where no group is left, every equation must have what it needs. The order of the groups is an argument. Assumes nothing.
+-- Cited by no public contract. The search for solutions (SPECIFICATION 11.2, 14.3): groups are set one after another, each to a number of mines from 0 to its
+-- size. The state is, for each equation, what it still needs, and how many cells its unset groups have. A value that an equation cannot take, or after which
+-- it could not get what it needs, is not tried; where no group is left, every equation must have what it needs. The order of the groups is an argument.
+-- Assumes nothing.
 use mathlib.Core.Bool.{Bool, cond, _&&_}
 use mathlib.Core.List.{List, [], _∷_, map}
 use Prim.Native.Nat.{ℕ, suc, _+_, _-_}

@@ -1,5 +1,5 @@
--- What the functions that ask what solutions show are told and tell. Two arrays of bytes are filled, by group: 1 where some solution has a mine in it, and 1
--- where some solution leaves a cell of it free. Assumes nothing.
+-- Cited by no public contract. What the functions that ask what solutions show are told and tell. Two arrays of bytes are filled, by group: 1 where some
+-- solution has a mine in it, and 1 where some solution leaves a cell of it free. Assumes nothing.
 use mathlib.Core.Path.{_≡_}
 use mathlib.Core.Bool.{Bool, true, false, not, cond, _&&_}
 use mathlib.Core.List.{List, map, List·Memᴰ}

@@ -1,4 +1,4 @@
--- solve_enumerate on blocks (document 01, "The three rules"): a cell that is safe in all solutions of its block, or a mine in all. Lists go by block, then
+-- solve_enumerate on blocks (SPECIFICATION 8.6): a cell that is safe in all solutions of its block, or a mine in all. Lists go by block, then
 -- group, then the group's cells. Refusal 6 where some block has no solution. Assumes nothing.
 use mathlib.Core.Bool.{Bool, cond, _||_}
 use mathlib.Core.List.{List, [], _∷_, map}

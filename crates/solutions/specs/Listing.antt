@@ -1,4 +1,4 @@
--- What the functions that list groups tell: the cells of the groups that are not marked, group after group. Assumes nothing.
+-- Cited by no public contract. What the functions that list groups tell: the cells of the groups that are not marked, group after group. Assumes nothing.
 use mathlib.Core.Bool.{not}
 use mathlib.Core.List.{List, map}
 use Prim.Native.Nat.{ℕ, _-_}

@@ -1,4 +1,4 @@
--- The three rules at a position, weakest first (document 01, "A verdict follows is_solvable"): each reads a fresh frontier, and the next is asked where
+-- The three rules at a position, weakest first (SPECIFICATION 9.1): each reads a fresh frontier, and the next is asked where
 -- one finds nothing. Assumes nothing.
 use mathlib.Core.List.{List}
 use Prim.Native.Nat.{ℕ}

@@ -1,5 +1,6 @@
--- The answers of cal_all_solution to a line: `blocks 2 [groups 3 solutions 2 rows 0 1 0 / 1 0 1] [refused 9]`, `refused 2`, or `unreadable`. Each block of the
--- position is asked for with a fresh table of 16,384 bytes, and its rows are read off the table's front as the caller sees it. Assumes nothing.
+-- Cited by no public contract. The answers of cal_all_solution to a line: `blocks 2 [groups 3 solutions 2 rows 0 1 0 / 1 0 1] [refused 9]`, `refused 2`, or
+-- `unreadable`. Each block of the position is asked for with a fresh table of 16,384 bytes, and its rows are read off the table's front as the caller sees it.
+-- Assumes nothing.
 use mathlib.Core.Bool.{cond}
 use mathlib.Core.List.{List, [], _∷_, _++_, map}
 use Prim.Native.Nat.{ℕ, _*_, _≤_}

@@ -1,4 +1,4 @@
--- What a call of cal_all_solution means to its caller, in Rattle and in C (demand 2; document 01, "Solution table" and refusals 8 and 9). The front of the table after an
+-- What a call of cal_all_solution means to its caller, in Rattle and in C (SPECIFICATION 1.3, 3.1, 11). The front of the table after an
 -- accepted call is the solutions of the block asked for, a row of a byte per group for each: every solution once, in the order of the groups' weights. Throughout, p is
 -- the position, k the number of the block asked for, t the table as it was lent and t′ the table after the call; `number` is 0 or the refusal's number, n counts
 -- the solutions and g the groups. Assumes nothing.

@@ -1,4 +1,4 @@
--- cal_all_solution as a call on a position (document 01, "Solution table" and refusals 8 and 9): the table of one block of the fresh frontier. Its rows stand at the
+-- cal_all_solution as a call on a position (SPECIFICATION 11, and refusals 8 and 9 of 3.1): the table of one block of the fresh frontier. Its rows stand at the
 -- front of the lent table, one after another, a byte for each group; the bytes past the last row keep their values, and a refusal leaves all. Assumes nothing.
 use mathlib.Core.Bool.{cond}
 use mathlib.Core.List.{List, [], _∷_}
@@ -21,7 +21,7 @@ use Rattle.search.specs.Solutions.{solutions}
 use Rattle.tables.specs.declared.TableAnswer.{TableAnswer}
 use Rattle.tables.specs.declared.TableAnswer.the-variants.{Refused, Listed}
 
--- document 01's number of an answer: 0, or the refusal's
+-- the number of an answer (SPECIFICATION 3.1): 0, or the refusal's
 abbrev pub tableNumber : TableAnswer → ℕ
 tableNumber (Refused r) = refusalNumber r
 tableNumber (Listed s g) = 0

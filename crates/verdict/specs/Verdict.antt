@@ -1,4 +1,4 @@
--- The verdict as a caller sees it (document 01, "Verdict, deductions, table" and "The three rules"): refusals 1, 2, 3, 4, 5 and 7; a start on a mine is judged
+-- The verdict as a caller sees it (SPECIFICATION 4.2 and 9): refusals 1, 2, 3, 4, 5 and 7; a start on a mine is judged
 -- no, with nothing opened; else the passes over the three rules, and the picture of the position that they end with. Assumes nothing.
 use mathlib.Core.Path.{_≡_}
 use mathlib.Core.Bool.{Bool, false, cond}
@@ -19,7 +19,7 @@ use Rattle.solutions.specs.ThreeRules.{threeRules}
 use Rattle.verdict.specs.declared.Verdict.{Verdict}
 use Rattle.verdict.specs.declared.Verdict.the-variants.{Refused, Judged}
 
--- document 01's number of an answer: 0, or the refusal's
+-- the number of an answer (SPECIFICATION 3.1): 0, or the refusal's
 abbrev pub verdictNumber : Verdict → ℕ
 verdictNumber (Refused r) = refusalNumber r
 verdictNumber (Judged answer n grade rounds) = 0

@@ -1,4 +1,4 @@
-// The verdict: is_solvable with refresh_board and IsVictory, in document 01's passes. The passes work on a position of their own; at the end
+// The verdict: is_solvable with refresh_board and IsVictory, in the passes of SPECIFICATION 9.1. The passes work on a position of their own; at the end
 // it goes to the lent picture, and what is not open is 10 there. specs/Verdict.antt says what a caller sees; demand 3 is part of the contract.
 pub mod finding;
 pub mod passes;

@@ -10,7 +10,7 @@ use borrow.Author.Tests.{not-true, not-false}
 use borrow.Fn.Kinds.{In}
 use borrow.Fn.PlainCycle.{Measures, is, falls, and}
 use Rattle.search.specs.Searching.{State, treeFrom}
-use Rattle.search.proofs.ListLaws.{length-part, part-written}
+use Rattle.lists.proofs.LentParts.{length-part, part-written}
 use Rattle.search.proofs.OrderedGroups.{Group, group-at, group-place, group-small, column-is, column-on-board}
 use Rattle.search.proofs.TakenValues.{Taken, taken-on-board, taken-once, taken-needs, taken-rooms, taken-state, back-needs, back-rooms, state-same}
 use Rattle.search.proofs.Branches.{tree-values, from-impossible}

@@ -1,5 +1,5 @@
 -- `answer_from` meets its contract: the step is lent what is left of the input and of the buffer. Assumes nothing.
-use Rattle.run.proofs.LentParts.{part-is, front-back, behind-back}
+use Rattle.lists.proofs.LentParts.{part-is, front-back, behind-back}
 use borrow.Author.Needs.{needs}
 use Rattle.run.proofs.answer_from.Statement.{statement}
 use Rattle.run.proofs.answer_from.Tie as tie

@@ -1,5 +1,6 @@
 -- `tally_of` meets its contract, verdict by verdict. Assumes nothing.
 use mathlib.Core.Path.{refl}
+use Rattle.run.proofs.Texts.{tally-refused}
 use borrow.Author.Needs.{needs}
 use Rattle.run.proofs.tally_of.Statement.{statement}
 use Rattle.run.proofs.tally_of.Tie as tie
@@ -11,7 +12,7 @@ enum-known-verdict : tie.Need-enum-known-verdict
 enum-known-verdict c = search needs
 
 returns : tie.Need-returns
-returns c = rw (c .enum-told .given .1) refl
+returns c = rw (c .enum-told .given .1) (tally-refused _)
 
 returns-2 : tie.Need-returns-2
 returns-2 c = rw (c .before .before .verdict .given .1, c .if1 .taken) refl
