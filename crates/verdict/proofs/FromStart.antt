@@ -27,10 +27,6 @@ use Rattle.verdict.specs.declared.Verdict.the-variants.{Judged}
 use Rattle.verdict.specs.Findings.{endOf}
 use Rattle.verdict.specs.Verdict.{verdictSeen, judgedFrom}
 
--- an array that is all closed
-abbrev pub array : List ℕ
-array = replicate 1024 10
-
 -- of closed cells none is open
 none-open : (n : ℕ) → opened (replicate n 10) ≡ 0
 none-open zero = refl
@@ -40,7 +36,11 @@ none-shown : (n : ℕ) → picture (replicate n 10) ≡ replicate n 10
 none-shown zero = refl
 none-shown (suc n) = ap (λ (l : List ℕ). 10 ∷ l) (none-shown n)
 
--- it has room for the board's cells
+-- an array that is all closed
+abbrev pub array : List ℕ
+array = replicate 1024 10
+
+-- has room for the board's cells
 module _ {rows columns : ℕ} {b : List ℕ} (board : Board b rows columns) where
   pub few : length b ≤ 1024
   few = omega (arith, board .whole, few-cells (board .sized))

@@ -19,7 +19,7 @@ abbrev μ-loop : tie.MeasureT-loop
 
 -- a cell that is closed or stays leaves as many
 kept : (c : tie.Joined1 Inv-loop μ-loop) → length (c .if1 .position) ≡ length (c .before .before .before .loop .position)
-kept c = let l = c .before .before .before .loop in ⊎-elim (λ w. ap length (w .1)) (λ w. ap length (w .1) ∙ length-set (l .position) (l .i) 10) (c .if1 .came)
+kept c = ⊎-elim (λ w. ap length (w .1)) (λ w. ap length (w .1) ∙ simp length-set) (c .if1 .came)
 
 loop-holds : tie.Need-loop-holds Inv-loop μ-loop
 loop-holds c = (closing-first _, copied-first (c .pre))
