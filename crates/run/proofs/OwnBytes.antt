@@ -5,8 +5,7 @@ use mathlib.Core.Bool.{true}
 use mathlib.Core.List.{List, _∷_, _++_}
 use Prim.Native.Nat.{ℕ, _+_}
 use native.Mathlib.Omega.{arith}
-use lib.ListN.{length, getD}
-use lib.Seq.{drop-at}
+use lib.ListN.{length, getD, drop-of-length-le}
 use Rattle.verdict.specs.declared.Verdict.{Verdict}
 use Rattle.records.specs.declared.Record.the-variants.{Whole}
 use Rattle.records.specs.Records.{recordLength, marked, recordOf, cellsIn}
@@ -24,7 +23,7 @@ module _ (r rest : List ℕ) (whole : length r ≡ recordLength r) (known : mark
   pub own-bytes : verdicts (r ++ rest) ≡ ownVerdict r ∷ verdicts rest
   own-bytes =
       verdicts-whole r rest _ _ _ _ (sym (record-whole r (omega (arith, whole, six-or-more r)) known (omega (arith, whole))))
-      ∙ ap (λ (l : List ℕ). ownVerdict r ∷ verdicts l) (drop-at r rest (recordLength r) whole)
+      ∙ ap (λ (l : List ℕ). ownVerdict r ∷ verdicts (l ++ rest)) (drop-of-length-le r {i = recordLength r} (omega (arith, whole)))
 
   -- and so their lines
   pub own-line : (n : ℕ) → lines n (verdicts (r ++ rest)) ≡ lineText n (ownVerdict r) ++ lines (n + 1) (verdicts rest)

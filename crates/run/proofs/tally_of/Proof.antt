@@ -12,7 +12,7 @@ enum-known-verdict : tie.Need-enum-known-verdict
 enum-known-verdict c = search needs
 
 returns : tie.Need-returns
-returns c = rw (c .enum-told .given .1) (tally-refused _)
+returns c = rw (c .enum-told .given .1) (tally-refused (c .enum-told .given .0 .0))
 
 returns-2 : tie.Need-returns-2
 returns-2 c = rw (c .before .before .verdict .given .1, c .if1 .taken) refl
