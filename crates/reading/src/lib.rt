@@ -1,10 +1,11 @@
 // The run over an open file: read, answer, write, keep what was not read. What the bytes come to is decided by `answer_part`, whose contract holds wherever the
 // input is cut; here they are only moved. How the run ended is told on standard error: a read or a write that failed with its cause, a damaged record with its
 // place, and a summary where all that could be judged was judged and written.
-mod ends;
-
-use ends::tell_end;
+use refusals::Refusal;
+use refusals::refusal_number;
 use run::Run;
+use run::RunState;
+use run::Tally;
 use run::answer_part;
 use run::goes_on;
 use run::keep_rest;
@@ -61,10 +62,64 @@ fn take_turn(fd: i32, input: &mut [u8], out: &mut [u8], turn: Turn) -> Turn
     }
 }
 
-// Judges the records of an open file. The input has room for the longest record and a byte more, so that a read that brings nothing is the input's end; it ends, as every
-// function does, after more reads than any input has bytes.
+// Writes to standard error. Where that fails there is nobody left to tell.
+fn tell(text: &[u8]) {
+    io::write_all(2, text);
+}
+
+fn tell_number(number: usize) {
+    io::print_decimal(2, number as u64);
+}
+
+// At which byte a damaged record begins, and that the rest was not judged.
+fn tell_damage(refusal: Refusal, at: usize) {
+    tell(b"judge: stopped at byte ");
+    tell_number(at);
+    if refusal_number(refusal) == 11 {
+        tell(b" of the input: it ends inside the record that begins there, which was not judged\n");
+    } else {
+        tell(b" of the input: no record begins there; what follows was not judged\n");
+    }
+}
+
+// `judge: 1500 boards: 980 yes, 500 no, 20 refused`.
+fn tell_summary(tally: Tally, boards: usize) {
+    tell(b"judge: ");
+    tell_number(boards);
+    if boards == 1 {
+        tell(b" board: ");
+    } else {
+        tell(b" boards: ");
+    }
+    tell_number(tally.yes);
+    tell(b" yes, ");
+    tell_number(tally.no);
+    tell(b" no, ");
+    tell_number(tally.refused);
+    tell(b" refused\n");
+}
+
+// The number of the line that would be next tells how many boards there were: line 0 is the header.
+fn boards_of(next: usize) -> usize {
+    if next == 0 { 0 } else { next - 1 }
+}
+
+// How a run ended that has come to its end.
+fn tell_end(run: Run) {
+    let state = run.state;
+    let tally = run.tally;
+    match state {
+        RunState::Stopped(refusal) => tell_damage(refusal, run.read),
+        _ => {}
+    }
+    tell_summary(tally, boards_of(run.next));
+}
+
+// Judges the records of an open file. It answers nothing, and no contract can say what is read and written. The input has room for the longest record and a byte more, so
+// that a read that brings nothing is the input's end; the loop ends, as every function does, after more reads than any input has bytes.
 pub fn judge_records(fd: i32, input: &mut [u8], out: &mut [u8])
     requires { ⌜ (65032 ≤ length (now input)) × (128 ≤ length (now out)) ⌝ }
+    ensures { λ _. ⌜ (length (now (input .exit)) ≡ length (now (input .entry))) × (length (now (out .exit)) ≡ length (now (out .entry))) ⌝ }
 {
     let mut turn = Turn {
         held: 0,

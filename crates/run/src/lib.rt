@@ -62,12 +62,14 @@ enum Next {
     Board(Verdict, usize),
 }
 
+// An empty part: the input's end, or a record may begin in the next part.
 fn next_after_end(ended: bool) -> Next
     ensures { λ r. ⌜ r ≡ nextAfterEnd ended ⌝ }
 {
     if ended { Next::Ended } else { Next::Waits }
 }
 
+// A damaged record; one that is cut short may go on in the next part.
 fn next_after_damage(refusal: Refusal, ended: bool) -> Next
     ensures { λ r. ⌜ r ≡ nextAfterDamage refusal ended ⌝ }
 {
@@ -80,7 +82,7 @@ fn next_after_damage(refusal: Refusal, ended: bool) -> Next
     Next::Damage(refusal)
 }
 
-// What stands at the front. A record that is cut short may go on where the input has not ended.
+// What stands at the front.
 fn next_verdict(input: &[u8], ended: bool) -> Next
     ensures { λ r. ⌜ r ≡ nextOf ended (now (input .entry)) ⌝ }
 {
