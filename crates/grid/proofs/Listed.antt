@@ -3,7 +3,7 @@
 -- them. Rests on the laws of `pad`. Assumes nothing.
 use Prim.Native.Nat.{ℕ, zero, suc, _+_, _*_, _≤_, _<_}
 use mathlib.Core.Path.{_≡_, _∙_}
-use mathlib.Core.Bool.{true}
+use mathlib.Core.Bool.{Bool, true}
 use mathlib.Core.List.{List, [], _∷_}
 use native.Mathlib.Nat.{not-suc-le-zero, le-of-suc-le-suc}
 use lib.ListN.{length, getD, drop}
@@ -12,7 +12,7 @@ use Rattle.lists.proofs.Members.{getD-has}
 use Rattle.lists.proofs.Arrays.{pad-read, drop-more, drop-none}
 use Rattle.grid.specs.declared.window.Neighbours.{Neighbours}
 use Rattle.grid.specs.Window.{neighbours, listed, On}
-use Rattle.grid.proofs.Neighbours.{neighbours-on, cell-few}
+use Rattle.grid.proofs.Neighbours.{neighbours-on, neighbours-few}
 
 module _ (near : Neighbours) (l : List ℕ) (is : near ≡ listed l) where
   -- x is what the slot t has, before the count
@@ -34,16 +34,16 @@ module _ (near : Neighbours) (l : List ℕ) (is : near ≡ listed l) where
 
 -- ---- the neighbours of a cell
 
-module _ (rows columns row column : ℕ) (near : Neighbours) (on : On rows columns row column) (is : near ≡ listed (neighbours rows columns (row * columns + column))) where
+module _ (edgeless : Bool) (rows columns row column : ℕ) (near : Neighbours) (on : On rows columns row column) (is : near ≡ listed (neighbours edgeless rows columns (row * columns + column))) where
   abbrev cells : List ℕ
-  cells = neighbours rows columns (row * columns + column)
+  cells = neighbours edgeless rows columns (row * columns + column)
 
   pub near-few : near .len ≤ 8
-  near-few = rw is (cell-few rows columns row column on)
+  near-few = rw is (neighbours-few edgeless rows columns (row * columns + column))
 
   module _ (t x : ℕ) (before : t < near .len) (at : x ≡ getD (near .cells) t 0) where
     pub near-on : x < rows * columns
-    near-on = neighbours-on rows columns (row * columns + column) x (listed-has near cells is t x before at)
+    near-on = neighbours-on edgeless rows columns (row * columns + column) x (listed-has near cells is t x before at)
 
     pub near-more : drop t cells ≡ x ∷ drop (t + 1) cells
     near-more = listed-more near cells is t x before at

@@ -2,23 +2,24 @@
 -- eight, and mutual. The idea: a cell's number tells its row and its column, so that a cell stands in a block of rows and columns where its row stands
 -- in the one list and its column in the other. Rests on the laws of `has` and of rising lists. Assumes nothing.
 use mathlib.Core.Path.{_≡_, refl, sym, ap, _∙_}
-use mathlib.Core.Logic.{_≢_, _↔_}
-use mathlib.Core.Bool.{Bool, true, false, not, _&&_, _||_}
+use mathlib.Core.Logic.{_⊎_, inl, inr, _≢_}
+use mathlib.Core.Bool.{Bool, true, false, not, cond, _&&_, _||_}
 use mathlib.Core.List.{List, [], _∷_, map}
 use Prim.Native.Nat.{ℕ, zero, suc, _+_, _-_, _*_, _/_, _%_, _≤_, _<_, min}
 use native.Mathlib.Omega.{arith}
+use native.Mathlib.Decide.{decLt}
 use native.Mathlib.Nat.{div-add-mod', div-lt-iff-lt-mul, mod-lt, mul-le-mul-left, mul-le-mul-right, suc-mul}
 use lib.Arith.{digits-div, digits-mod, digits-lt}
 use lib.ListN.{length, length-append, length-map}
-use lib.Dec.{eqb}
-use borrow.Author.Tests.{eqb-true, eqb-false, eq-eqb, ne-eqb, not-true}
-use Rattle.lists.specs.Lists.{range, count, has, nodup, without}
-use Rattle.lists.proofs.Tests.{same-test, and-left, and-right}
-use Rattle.lists.proofs.Members.{has-head, has-tail, has-append, has-keep, kept-passes, kept-has, range-in, in-range}
+use lib.Dec.{leb, ltb, eqb}
+use borrow.Author.Tests.{eqb-true, eqb-false, eq-eqb, ne-eqb, not-true, leb-true, ltb-true, le-leb, lt-ltb}
+use Rattle.lists.specs.Lists.{range, count, keep, has, nodup, without}
+use Rattle.lists.proofs.Tests.{Decided, decided, clash, or-cases, or-right, same-test, and-left, and-right}
+use Rattle.lists.proofs.Collected.{keep-few}
+use Rattle.lists.proofs.Members.{has-head, has-tail, has-append, has-keep, kept-passes, kept-has, range-in, in-range, range-nodup, nodup-head, nodup-tail, nodup-keep, nodup-append}
 use Rattle.lists.proofs.Counts.{count-out}
-use Rattle.grid.specs.Window.{around, block, neighbours, Sized, On}
+use Rattle.grid.specs.Window.{before, after, around, lowAt, highAt, block, neighbours, Sized, On}
 use Rattle.lists.proofs.Rearranged.{count-all, length-range}
-use Rattle.lists.proofs.Rising.{rising, rising-head, rising-tail, rising-more, rising-range, rising-keep, rising-append, rising-nodup}
 
 -- ---- the rows, or the columns, around one of them
 
@@ -27,33 +28,170 @@ pub record Near (i j : ℕ) : Type 0 where
   pub after : i ≤ j + 1
   pub before : j ≤ i + 1
 
-near-self : (i : ℕ) → Near i i
-near-self i = record { after = omega arith; before = omega arith }
-
-near-mutual : {i j : ℕ} → Near i j → Near j i
-near-mutual n = record { after = n .before; before = n .after }
+-- or, without an edge, are the first and the last
+abbrev pub NearOn : Bool → ℕ → ℕ → ℕ → Type 0
+NearOn true size i j = (j ≡ i) ⊎ ((j ≡ after size i) ⊎ (i ≡ after size j))
+NearOn false size i j = Near i j
 
 -- how many stand around i
 abbrev span : ℕ → ℕ → ℕ
 span size i = min (i + 2) size - (i - 1)
 
-pub around-in : (size i x : ℕ) → has (around size i) x ≡ true → (x < size) × Near i x
+-- ---- a side without an edge, of at least 3 lines
+
+module _ (size i : ℕ) (wide : 3 ≤ size) (on : i < size) where
+  after-below : after size i < size
+  after-below = go (decided (eqb (i + 1) size))
+    where
+      go : Decided (eqb (i + 1) size) → after size i < size
+      go (inl e) = rw e (omega arith)
+      go (inr e) = rw e (let n : i + 1 ≢ size = eqb-false (i + 1) size e in omega arith)
+
+  before-below : before size i < size
+  before-below = go (decided (eqb i 0))
+    where
+      go : Decided (eqb i 0) → before size i < size
+      go (inl e) = rw e (omega arith)
+      go (inr e) = rw e (omega arith)
+
+  -- each is the other's other way round
+  after-before : after size (before size i) ≡ i
+  after-before = go (decided (eqb i 0))
+    where
+      go : Decided (eqb i 0) → after size (before size i) ≡ i
+      go (inl e) = let z : i ≡ 0 = eqb-true i 0 e in let n : (size - 1) + 1 ≡ size = omega arith in rw (e, eq-eqb ((size - 1) + 1) size n) (sym z)
+      go (inr e) =
+          let z : i ≢ 0 = eqb-false i 0 e in
+          let m : (i - 1) + 1 ≡ i = omega arith in
+          rw (e, ne-eqb ((i - 1) + 1) size (omega arith)) m
+
+  before-after : before size (after size i) ≡ i
+  before-after = go (decided (eqb (i + 1) size))
+    where
+      go : Decided (eqb (i + 1) size) → before size (after size i) ≡ i
+      go (inl e) = let z : i + 1 ≡ size = eqb-true (i + 1) size e in rw e (omega arith)
+      go (inr e) = rw (e, ne-eqb (i + 1) 0 (omega arith)) (omega arith)
+
+  -- the three lines are different
+  before-other : before size i ≢ i
+  before-other = go (decided (eqb i 0))
+    where
+      go : Decided (eqb i 0) → before size i ≢ i
+      go (inl e) = let z : i ≡ 0 = eqb-true i 0 e in rw e (λ w. omega arith)
+      go (inr e) = let z : i ≢ 0 = eqb-false i 0 e in rw e (λ w. omega arith)
+
+  after-other : after size i ≢ i
+  after-other = go (decided (eqb (i + 1) size))
+    where
+      go : Decided (eqb (i + 1) size) → after size i ≢ i
+      go (inl e) = let z : i + 1 ≡ size = eqb-true (i + 1) size e in rw e (λ w. omega arith)
+      go (inr e) = rw e (λ w. omega arith)
+
+  before-not-after : before size i ≢ after size i
+  before-not-after = go (decided (eqb i 0)) (decided (eqb (i + 1) size))
+    where
+      go : Decided (eqb i 0) → Decided (eqb (i + 1) size) → before size i ≢ after size i
+      go (inl a) (inl b) = let z : i ≡ 0 = eqb-true i 0 a in let y : i + 1 ≡ size = eqb-true (i + 1) size b in absurd (omega arith)
+      go (inl a) (inr b) = let z : i ≡ 0 = eqb-true i 0 a in rw (a, b) (λ w. omega arith)
+      go (inr a) (inl b) = let z : i ≢ 0 = eqb-false i 0 a in let y : i + 1 ≡ size = eqb-true (i + 1) size b in rw (a, b) (λ w. omega arith)
+      go (inr a) (inr b) = rw (a, b) (λ w. omega arith)
+
+  abbrev pub three : List ℕ
+  three = before size i ∷ i ∷ after size i ∷ []
+
+  three-nodup : nodup three ≡ true
+  three-nodup = rw (ne-eqb (before size i) i before-other, ne-eqb (before size i) (after size i) before-not-after, ne-eqb i (after size i) (λ w. after-other (sym w)))
+
+-- what stands around i, case by case
+module _ (size i : ℕ) where
+  -- the side is long enough and i is on it
+  abbrev Wraps : Type 0
+  Wraps = (3 ≤ size) × (i < size)
+
+  wraps-cases : (around true size i ≡ []) ⊎ (Wraps × (around true size i ≡ before size i ∷ i ∷ after size i ∷ []))
+  unfolding around
+  wraps-cases = go (decided (leb 3 size)) (decided (ltb i size))
+    where
+      go : Decided (leb 3 size) → Decided (ltb i size) → (around true size i ≡ []) ⊎ (Wraps × (around true size i ≡ before size i ∷ i ∷ after size i ∷ []))
+      go (inr a) b = inl (rw a)
+      go (inl a) (inr b) = inl (rw (a, b))
+      go (inl a) (inl b) = inr ((leb-true 3 size a, ltb-true i size b), rw (a, b))
+
+three-cases : (a b c x : ℕ) → has (a ∷ b ∷ c ∷ []) x ≡ true → (x ≡ a) ⊎ ((x ≡ b) ⊎ (x ≡ c))
+three-cases a b c x h = go (or-cases (eqb x a) (eqb x b || (eqb x c || false)) h)
+  where
+    last : (eqb x c ≡ true) ⊎ (false ≡ true) → x ≡ c
+    last (inl e) = eqb-true x c e
+    last (inr e) = clash false e refl
+
+    go : (eqb x a ≡ true) ⊎ ((eqb x b || (eqb x c || false)) ≡ true) → (x ≡ a) ⊎ ((x ≡ b) ⊎ (x ≡ c))
+    go (inl e) = inl (eqb-true x a e)
+    go (inr e) = inr (next (or-cases (eqb x b) (eqb x c || false) e))
+      where
+        next : (eqb x b ≡ true) ⊎ ((eqb x c || false) ≡ true) → (x ≡ b) ⊎ (x ≡ c)
+        next (inl w) = inl (eqb-true x b w)
+        next (inr w) = inr (last (or-cases (eqb x c) false w))
+
+pub around-in : (edgeless : Bool) (size i x : ℕ) → has (around edgeless size i) x ≡ true → (x < size) × NearOn edgeless size i x
 unfolding around
-around-in size i x h =
+around-in false size i x h =
     let bounds = range-in (i - 1) (span size i) x h in
     (omega arith, record { after = omega arith; before = omega arith })
+around-in true size i x h = go (wraps-cases size i)
+  where
+    go : (around true size i ≡ []) ⊎ (((3 ≤ size) × (i < size)) × (around true size i ≡ before size i ∷ i ∷ after size i ∷ [])) → (x < size) × NearOn true size i x
+    go (inl e) = clash false (rw e at h) refl
+    go (inr ((w, on), e)) = which (three-cases (before size i) i (after size i) x (rw e at h))
+      where
+        which : (x ≡ before size i) ⊎ ((x ≡ i) ⊎ (x ≡ after size i)) → (x < size) × NearOn true size i x
+        which (inl y) = (rw y (before-below size i w on), inr (inr (rw y (sym (after-before size i w on)))))
+        which (inr (inl y)) = (rw y on, inl y)
+        which (inr (inr y)) = (rw y (after-below size i w on), inr (inl y))
 
-pub in-around : (size i x : ℕ) → x < size → Near i x → has (around size i) x ≡ true
+-- a line around i has i around it
+pub around-mutual : (edgeless : Bool) (size i x : ℕ) → i < size → has (around edgeless size i) x ≡ true → has (around edgeless size x) i ≡ true
 unfolding around
-in-around size i x below near = in-range (i - 1) (span size i) x (omega arith) (omega arith)
+around-mutual false size i x on h =
+    let (below, near) = around-in false size i x h in
+    in-range (x - 1) (span size x) i (omega (arith, near .before)) (omega (arith, near .after))
+around-mutual true size i x on h = go (wraps-cases size i) (around-in true size i x h)
+  where
+    here : 3 ≤ size → x < size → (has (before size x ∷ x ∷ after size x ∷ []) i ≡ true) → has (around true size x) i ≡ true
+    here w below e = rw (le-leb 3 size w, lt-ltb x size below) e
 
-around-rising : (size i : ℕ) → rising (around size i) ≡ true
-unfolding around
-around-rising size i = rising-range (i - 1) (span size i)
+    go : (around true size i ≡ []) ⊎ (((3 ≤ size) × (i < size)) × (around true size i ≡ before size i ∷ i ∷ after size i ∷ [])) → (x < size) × NearOn true size i x
+        → has (around true size x) i ≡ true
+    go (inl e) k = clash false (rw e at h) refl
+    go (inr ((w, _), e)) (below, inl y) = here w below (rw (eq-eqb i x (sym y)) (or-true (eqb i (before size x))))
+      where
+        or-true : (t : Bool) → (t || true) ≡ true
+        or-true true = refl
+        or-true false = refl
+    go (inr ((w, _), e)) (below, inr (inl y)) = here w below (rw (eq-eqb i (before size x) (rw y (sym (before-after size i w on)))))
+    go (inr ((w, _), e)) (below, inr (inr y)) = here w below (rw (eq-eqb i (after size x) y) (or-last (eqb i (before size x)) (eqb i x)))
+      where
+        or-last : (s t : Bool) → (s || (t || (true || false))) ≡ true
+        or-last true t = refl
+        or-last false true = refl
+        or-last false false = refl
 
-around-few : (size i : ℕ) → length (around size i) ≤ 3
+around-nodup : (edgeless : Bool) (size i : ℕ) → nodup (around edgeless size i) ≡ true
 unfolding around
-around-few size i = rw length-range (omega arith)
+around-nodup false size i = range-nodup (i - 1) (span size i)
+around-nodup true size i = go (wraps-cases size i)
+  where
+    go : (around true size i ≡ []) ⊎ (((3 ≤ size) × (i < size)) × (around true size i ≡ before size i ∷ i ∷ after size i ∷ [])) → nodup (around true size i) ≡ true
+    go (inl e) = rw e
+    go (inr ((w, on), e)) = rw e (three-nodup size i w on)
+
+around-few : (edgeless : Bool) (size i : ℕ) → length (around edgeless size i) ≤ 3
+unfolding around
+around-few false size i = rw length-range (omega arith)
+around-few true size i = go (wraps-cases size i)
+  where
+    go : (around true size i ≡ []) ⊎ (((3 ≤ size) × (i < size)) × (around true size i ≡ before size i ∷ i ∷ after size i ∷ [])) → length (around true size i) ≤ 3
+    go (inl e) = rw e (omega arith)
+    go (inr (w, e)) = rw e (omega arith)
 
 -- ---- the block of some rows and columns
 
@@ -108,28 +246,24 @@ module _ (columns : ℕ) where
       go true false false = refl
       go false b c = refl
 
-  row-rising : (i : ℕ) (js : List ℕ) → ((j : ℕ) → has js j ≡ true → j < columns) → rising js ≡ true → rising (map (λ (j : ℕ). i * columns + j) js) ≡ true
-  row-rising i [] h r = refl
-  row-rising i (j ∷ js) h r = rising-more (i * columns + j) (map (λ (k : ℕ). i * columns + k) js) above (row-rising i js others (rising-tail j js r))
+  row-nodup : (i : ℕ) (js : List ℕ) → ((j : ℕ) → has js j ≡ true → j < columns) → nodup js ≡ true → nodup (map (λ (j : ℕ). i * columns + j) js) ≡ true
+  row-nodup i [] h n = refl
+  row-nodup i (j ∷ js) h n = rw out (row-nodup i js others (nodup-tail j js n))
     where
       others : (k : ℕ) → has js k ≡ true → k < columns
       others k e = h k (has-tail j js k e)
 
-      above : (x : ℕ) → has (map (λ (k : ℕ). i * columns + k) js) x ≡ true → i * columns + j < x
-      above x e =
-          let (row, column) = in-row i x js others e in
-          omega (arith, rising-head j js r (x % columns) column, rw row at (div-add-mod' x columns))
+      out : has (map (λ (k : ℕ). i * columns + k) js) (i * columns + j) ≡ false
+      out = row-has i (i * columns + j) js others
+          ∙ rw (digits-div i (h j (has-head j js)), digits-mod i (h j (has-head j js)), eq-eqb i i refl) (nodup-head j js n)
 
-  block-rising : (is js : List ℕ) → ((j : ℕ) → has js j ≡ true → j < columns) → rising is ≡ true → rising js ≡ true → rising (block columns is js) ≡ true
-  block-rising [] js h a b = refl
-  block-rising (i ∷ is) js h a b =
-      rising-append (map (λ (j : ℕ). i * columns + j) js) (block columns is js) (row-rising i js h b) (block-rising is js h (rising-tail i is a) b) below
+  block-nodup : (is js : List ℕ) → ((j : ℕ) → has js j ≡ true → j < columns) → nodup is ≡ true → nodup js ≡ true → nodup (block columns is js) ≡ true
+  block-nodup [] js h a b = refl
+  block-nodup (i ∷ is) js h a b =
+      nodup-append (map (λ (j : ℕ). i * columns + j) js) (block columns is js) (row-nodup i js h b) (block-nodup is js h (nodup-tail i is a) b) apart
     where
-      below : (x y : ℕ) → has (map (λ (j : ℕ). i * columns + j) js) x ≡ true → has (block columns is js) y ≡ true → x < y
-      below x y e f =
-          let (row, column) = in-row i x js h e in
-          let later = rising-head i is a (y / columns) (and-left (has is (y / columns)) (has js (y % columns)) (sym (block-has is js h y) ∙ f)) in
-          omega (arith, rw row at (div-add-mod' x columns), h (x % columns) column, suc-mul i columns, mul-le-mul-right columns later, div-add-mod' y columns)
+      apart : (x : ℕ) → has (map (λ (j : ℕ). i * columns + j) js) x ≡ true → has (block columns is js) x ≡ false
+      apart x e = let (row, column) = in-row i x js h e in block-has is js h x ∙ rw (row, nodup-head i is a)
 
   length-block : (is js : List ℕ) → length (block columns is js) ≡ length is * length js
   length-block [] js = omega arith
@@ -149,55 +283,55 @@ length-without c l n h = omega (arith, rw h at (count-out (λ _. true) c l n), c
 
 -- ---- the neighbours
 
--- a cell d on the board, other than c, whose row and column differ from those of c by at most one
-pub record Touch (rows columns c d : ℕ) : Type 0 where
+-- a cell d on the board, other than c, whose row and column are near those of c
+pub record Touch (edgeless : Bool) (rows columns c d : ℕ) : Type 0 where
   pub other : d ≢ c
   pub on-board : d / columns < rows
-  pub near-rows : Near (c / columns) (d / columns)
-  pub near-columns : Near (c % columns) (d % columns)
+  pub near-rows : NearOn edgeless rows (c / columns) (d / columns)
+  pub near-columns : NearOn edgeless columns (c % columns) (d % columns)
 
-module _ (rows columns c : ℕ) where
+module _ (edgeless : Bool) (rows columns c : ℕ) where
   -- the cell and its neighbours
   abbrev window : List ℕ
-  window = block columns (around rows (c / columns)) (around columns (c % columns))
+  window = block columns (around edgeless rows (c / columns)) (around edgeless columns (c % columns))
 
-  on-row : (j : ℕ) → has (around columns (c % columns)) j ≡ true → j < columns
-  on-row j e = (around-in columns (c % columns) j e) .0
+  on-row : (j : ℕ) → has (around edgeless columns (c % columns)) j ≡ true → j < columns
+  on-row j e = (around-in edgeless columns (c % columns) j e) .0
 
-  window-has : (d : ℕ) → has window d ≡ (has (around rows (c / columns)) (d / columns) && has (around columns (c % columns)) (d % columns))
-  window-has d = block-has columns (around rows (c / columns)) (around columns (c % columns)) on-row d
+  window-has : (d : ℕ) → has window d ≡ (has (around edgeless rows (c / columns)) (d / columns) && has (around edgeless columns (c % columns)) (d % columns))
+  window-has d = block-has columns (around edgeless rows (c / columns)) (around edgeless columns (c % columns)) on-row d
 
-  window-rising : rising window ≡ true
-  window-rising = block-rising columns (around rows (c / columns)) (around columns (c % columns)) on-row (around-rising rows (c / columns)) (around-rising columns (c % columns))
+  window-nodup : nodup window ≡ true
+  window-nodup = block-nodup columns (around edgeless rows (c / columns)) (around edgeless columns (c % columns)) on-row
+      (around-nodup edgeless rows (c / columns)) (around-nodup edgeless columns (c % columns))
 
-  pub neighbours-has : (d : ℕ) → has (neighbours rows columns c) d ≡ (not (eqb d c) && (has (around rows (c / columns)) (d / columns) && has (around columns (c % columns)) (d % columns)))
+  pub neighbours-has : (d : ℕ) → has (neighbours edgeless rows columns c) d
+      ≡ (not (eqb d c) && (has (around edgeless rows (c / columns)) (d / columns) && has (around edgeless columns (c % columns)) (d % columns)))
   unfolding neighbours
   neighbours-has d = has-keep (λ x. not (eqb x c)) window d ∙ ap (λ (e : Bool). not (eqb d c) && e) (window-has d)
 
-  -- they are in reading order
-  pub neighbours-rising : rising (neighbours rows columns c) ≡ true
+  pub neighbours-nodup : nodup (neighbours edgeless rows columns c) ≡ true
   unfolding neighbours
-  neighbours-rising = rising-keep (λ x. not (eqb x c)) window window-rising
-
-  pub neighbours-nodup : nodup (neighbours rows columns c) ≡ true
-  neighbours-nodup = rising-nodup (neighbours rows columns c) neighbours-rising
+  neighbours-nodup = nodup-keep (λ x. not (eqb x c)) window window-nodup
 
   -- where the cells of the window are
-  placed : (d : ℕ) → has window d ≡ true → ((d / columns < rows) × Near (c / columns) (d / columns)) × ((d % columns < columns) × Near (c % columns) (d % columns))
+  placed : (d : ℕ) → has window d ≡ true
+      → ((d / columns < rows) × NearOn edgeless rows (c / columns) (d / columns)) × ((d % columns < columns) × NearOn edgeless columns (c % columns) (d % columns))
   placed d h =
       let both = sym (window-has d) ∙ h in (
-        around-in rows (c / columns) (d / columns) (and-left (has (around rows (c / columns)) (d / columns)) _ both),
-        around-in columns (c % columns) (d % columns) (and-right (has (around rows (c / columns)) (d / columns)) _ both),
+        around-in edgeless rows (c / columns) (d / columns) (and-left (has (around edgeless rows (c / columns)) (d / columns)) _ both),
+        around-in edgeless columns (c % columns) (d % columns) (and-right (has (around edgeless rows (c / columns)) (d / columns)) _ both),
       )
 
   -- a neighbour is a cell of the window, other than the cell itself
-  in-window : (d : ℕ) → has (neighbours rows columns c) d ≡ true → has window d ≡ true
+  in-window : (d : ℕ) → has (neighbours edgeless rows columns c) d ≡ true → has window d ≡ true
   unfolding neighbours
   in-window d h = kept-has (λ x. not (eqb x c)) window d h
 
-  touches : (d : ℕ) → has (neighbours rows columns c) d ≡ true → Touch rows columns c d
+  -- the neighbours touch
+  pub neighbours-touch : (d : ℕ) → has (neighbours edgeless rows columns c) d ≡ true → Touch edgeless rows columns c d
   unfolding neighbours
-  touches d h =
+  neighbours-touch d h =
       let (at-row, at-column) = placed d (in-window d h) in
       record {
         other = eqb-false d c (not-true (eqb d c) (kept-passes (λ x. not (eqb x c)) window d h));
@@ -206,53 +340,80 @@ module _ (rows columns c : ℕ) where
         near-columns = at-column .1;
       }
 
-  touched : 0 < columns → (d : ℕ) → Touch rows columns c d → has (neighbours rows columns c) d ≡ true
-  touched p d t =
-      neighbours-has d
-      ∙ rw (
-        ne-eqb d c (t .other),
-        in-around rows (c / columns) (d / columns) (t .on-board) (t .near-rows),
-        in-around columns (c % columns) (d % columns) (mod-lt d p) (t .near-columns),
-      )
-
-  -- the neighbours are exactly the cells that touch
-  pub neighbours-touch : 0 < columns → (d : ℕ) → (has (neighbours rows columns c) d ≡ true) ↔ Touch rows columns c d
-  neighbours-touch p d = (touches d, touched p d)
-
-  pub neighbours-on : (d : ℕ) → has (neighbours rows columns c) d ≡ true → d < rows * columns
+  pub neighbours-on : (d : ℕ) → has (neighbours edgeless rows columns c) d ≡ true → d < rows * columns
   neighbours-on d h =
       let (at-row, at-column) = placed d (in-window d h) in
       rw div-add-mod' at (digits-lt (at-row .0) (at-column .0))
 
-  -- the block has at most nine cells, none twice, and the cell is one of them
-  pub neighbours-few : c < rows * columns → 0 < columns → length (neighbours rows columns c) ≤ 8
-  unfolding neighbours
-  neighbours-few l p =
-      omega (
-        arith,
-        length-without c window (rising-nodup window window-rising) own,
-        length-block columns (around rows (c / columns)) (around columns (c % columns)),
-        mul-le-mul-right (length (around columns (c % columns))) (around-few rows (c / columns)),
-        mul-le-mul-left 3 (around-few columns (c % columns)),
-      )
-    where
-      own : has window c ≡ true
-      own = window-has c ∙ rw (
-        in-around rows (c / columns) (c / columns) (div-lt-iff-lt-mul p .1 l) (near-self (c / columns)),
-        in-around columns (c % columns) (c % columns) (mod-lt c p) (near-self (c % columns)),
-      )
+pub neighbours-mutual : (edgeless : Bool) (rows columns c d : ℕ) → c < rows * columns → 0 < columns → has (neighbours edgeless rows columns c) d ≡ true
+    → has (neighbours edgeless rows columns d) c ≡ true
+neighbours-mutual edgeless rows columns c d l p h =
+    let all = sym (neighbours-has edgeless rows columns c d) ∙ h in
+    let lines = and-right (not (eqb d c)) _ all in
+    let other : d ≢ c = eqb-false d c (not-true (eqb d c) (and-left (not (eqb d c)) _ all)) in
+    neighbours-has edgeless rows columns d c
+    ∙ rw (
+      ne-eqb c d (λ e. other (sym e)),
+      around-mutual edgeless rows (c / columns) (d / columns) (div-lt-iff-lt-mul p .1 l) (and-left (has (around edgeless rows (c / columns)) (d / columns)) _ lines),
+      around-mutual edgeless columns (c % columns) (d % columns) (mod-lt c p) (and-right (has (around edgeless rows (c / columns)) (d / columns)) _ lines),
+    )
 
-pub neighbours-mutual : (rows columns c d : ℕ) → c < rows * columns → 0 < columns → has (neighbours rows columns c) d ≡ true → has (neighbours rows columns d) c ≡ true
-neighbours-mutual rows columns c d l p h =
-    let t = neighbours-touch rows columns c p d .0 h in
-    neighbours-touch rows columns d p c
-    .1
-    record {
-      other = λ e. t .other (sym e);
-      on-board = div-lt-iff-lt-mul p .1 l;
-      near-rows = near-mutual (t .near-rows);
-      near-columns = near-mutual (t .near-columns);
-    }
+-- ---- at most eight, of every number: off the board, and on a side too short to wrap, there is one line around at most; else the cell itself is one of the
+-- at most nine cells of its window, none of which stands there twice
+
+-- the lines around a line are at most one, or the line is one of them
+one-or-own : (edgeless : Bool) (size i : ℕ) → (length (around edgeless size i) ≤ 1) ⊎ (has (around edgeless size i) i ≡ true)
+unfolding around
+one-or-own false size i = go (decLt i size)
+  where
+    go : Dec (i < size) → (length (range (i - 1) (span size i)) ≤ 1) ⊎ (has (range (i - 1) (span size i)) i ≡ true)
+    go (yes on) = inr (in-range (i - 1) (span size i) i (omega arith) (omega arith))
+    go (no off) = inl (rw length-range (omega (arith, off)))
+one-or-own true size i = go (wraps-cases size i)
+  where
+    go : (around true size i ≡ []) ⊎ (((3 ≤ size) × (i < size)) × (around true size i ≡ before size i ∷ i ∷ after size i ∷ []))
+        → (length (around true size i) ≤ 1) ⊎ (has (around true size i) i ≡ true)
+    go (inl e) = inl (rw e (omega arith))
+    go (inr (w, e)) = inr (rw (e, eq-eqb i i refl) (or-right (eqb i (before size i)) (true || (eqb i (after size i) || false)) refl))
+
+pub neighbours-few : (edgeless : Bool) (rows columns c : ℕ) → length (neighbours edgeless rows columns c) ≤ 8
+unfolding neighbours
+neighbours-few edgeless rows columns c = go (one-or-own edgeless rows (c / columns)) (one-or-own edgeless columns (c % columns))
+  where
+    above : List ℕ
+    above = around edgeless rows (c / columns)
+
+    beside : List ℕ
+    beside = around edgeless columns (c % columns)
+
+    go : (length above ≤ 1) ⊎ (has above (c / columns) ≡ true) → (length beside ≤ 1) ⊎ (has beside (c % columns) ≡ true)
+        → length (without c (block columns above beside)) ≤ 8
+    go (inl e) k =
+        keep-few (λ x. not (eqb x c)) (block columns above beside)
+        (omega (arith, length-block columns above beside, mul-le-mul-right (length beside) e, around-few edgeless columns (c % columns)))
+    go (inr h) (inl e) =
+        keep-few (λ x. not (eqb x c)) (block columns above beside)
+        (omega (arith, length-block columns above beside, mul-le-mul-left (length above) e, around-few edgeless rows (c / columns)))
+    go (inr h) (inr k) =
+        omega (
+          arith,
+          length-without c (block columns above beside) (window-nodup edgeless rows columns c) (window-has edgeless rows columns c c ∙ rw (h, k)),
+          length-block columns above beside,
+          mul-le-mul-right (length beside) (around-few edgeless rows (c / columns)),
+          mul-le-mul-left 3 (around-few edgeless columns (c % columns)),
+        )
+
+-- ---- the ends of a window
+
+pub high-bound : (edgeless : Bool) (size i : ℕ) → i < size → (highAt edgeless size i ≤ size + size) × (highAt edgeless size i ≤ lowAt edgeless size i + 3)
+high-bound false size i on = (omega arith, omega arith)
+high-bound true size i on = go (decided (leb 3 size)) (decided (eqb i 0))
+  where
+    go : Decided (leb 3 size) → Decided (eqb i 0) → (highAt true size i ≤ size + size) × (highAt true size i ≤ lowAt true size i + 3)
+    go (inl a) (inl b) = let w : 3 ≤ size = leb-true 3 size a in rw (a, b) (omega arith, omega arith)
+    go (inl a) (inr b) = let w : 3 ≤ size = leb-true 3 size a in rw (a, b) (omega arith, omega arith)
+    go (inr a) (inl b) = rw (a, b) (omega arith, omega arith)
+    go (inr a) (inr b) = rw (a, b) (omega arith, omega arith)
 
 -- ---- a row and a column on the board
 
@@ -261,8 +422,3 @@ pub cell-on : (rows columns row column : ℕ) → Sized rows columns → On rows
     → (row * columns + column < rows * columns) × (rows * columns ≤ 1024)
 cell-on rows columns row column sized on =
     (digits-lt (on .in-rows) (on .in-columns), omega (arith, mul-le-mul-right columns (sized .few-rows), mul-le-mul-left 32 (sized .few-columns)))
-
--- it has at most eight neighbours
-pub cell-few : (rows columns row column : ℕ) → On rows columns row column → length (neighbours rows columns (row * columns + column)) ≤ 8
-cell-few rows columns row column on =
-    neighbours-few rows columns (row * columns + column) (digits-lt (on .in-rows) (on .in-columns)) (omega (arith, on .in-columns))

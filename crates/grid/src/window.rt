@@ -1,11 +1,11 @@
 // The neighbour window: which cells touch a cell. Whatever walks over neighbours goes through these functions.
 ghost use mathlib.Core.Path.{_≡_};
-ghost use Prim.Native.Nat.{_+_, _-_, _*_, _≤_, _<_, min};
+ghost use Prim.Native.Nat.{_+_, _*_, _≤_, _<_};
 ghost use lib.Dec.{eqb};
 ghost use lib.ListN.{length};
 ghost use Rattle.lists.specs.Lists.{any, count, keep};
 ghost use Rattle.grid.specs.Cells.{cellOf};
-ghost use Rattle.grid.specs.Window.{neighbours, listed, Sized, Board, On, Around};
+ghost use Rattle.grid.specs.Window.{lowAt, highAt, folded, neighbours, listed, Sized, Board, On, Around};
 
 // The rows from top up to bottom and the columns from left up to right, the ends left out: a cell and its neighbours.
 pub struct Window {
@@ -21,33 +21,52 @@ pub struct Neighbours {
     pub len: usize,
 }
 
-// The first row or column of the window around i.
-fn low(i: usize) -> usize
-    ensures { λ r. ⌜ r ≡ i - 1 ⌝ }
+// The first line of the window around i, of `size` of them.
+fn low(edgeless: bool, size: usize, i: usize) -> usize
+    requires { ⌜ i < size ⌝ }
+    ensures { λ r. ⌜ r ≡ lowAt edgeless size i ⌝ }
 {
-    if i == 0 { 0 } else { i - 1 }
+    if i != 0 {
+        return i - 1;
+    }
+    if edgeless { size - 1 } else { 0 }
 }
 
-// One past the last row or column of the window around i, of `size` of them.
-fn high(size: usize, i: usize) -> usize
+// One past the last line of the window around i. A window that wraps goes on past the size.
+fn high(edgeless: bool, size: usize, i: usize) -> usize
     requires { ⌜ size ≤ 32 ⌝ }
     requires { ⌜ i < size ⌝ }
-    ensures { λ r. ⌜ r ≡ min (i + 2) size ⌝ }
+    ensures { λ r. ⌜ r ≡ highAt edgeless size i ⌝ }
 {
+    if edgeless {
+        let first = low(edgeless, size, i);
+        if size < 3 {
+            return first;
+        }
+        return first + 3;
+    }
     if i + 2 < size { i + 2 } else { size }
 }
 
+// The line that a line of a window is: past the size it begins anew.
+fn fold(size: usize, i: usize) -> usize
+    requires { ⌜ i < size + size ⌝ }
+    ensures { λ r. ⌜ (r ≡ folded size i) × (r < size) ⌝ }
+{
+    if i < size { i } else { i - size }
+}
+
 // The window around a cell.
-pub fn window_of(rows: usize, columns: usize, row: usize, column: usize) -> Window
+pub fn window_of(edgeless: bool, rows: usize, columns: usize, row: usize, column: usize) -> Window
     requires { ⌜ Sized rows columns ⌝ }
     requires { ⌜ On rows columns row column ⌝ }
-    ensures { λ r. ⌜ Around rows columns row column r ⌝ }
+    ensures { λ r. ⌜ Around edgeless rows columns row column r ⌝ }
 {
     Window {
-        top: low(row),
-        bottom: high(rows, row),
-        left: low(column),
-        right: high(columns, column),
+        top: low(edgeless, rows, row),
+        bottom: high(edgeless, rows, row),
+        left: low(edgeless, columns, column),
+        right: high(edgeless, columns, column),
     }
 }
 
@@ -60,14 +79,14 @@ pub fn cell_number(rows: usize, columns: usize, row: usize, column: usize) -> us
     row * columns + column
 }
 
-// The neighbours of a cell, in reading order.
-pub fn neighbours_of(rows: usize, columns: usize, row: usize, column: usize) -> Neighbours
+// The neighbours of a cell, from the row above to the row below and from left to right.
+pub fn neighbours_of(edgeless: bool, rows: usize, columns: usize, row: usize, column: usize) -> Neighbours
     requires { ⌜ Sized rows columns ⌝ }
     requires { ⌜ On rows columns row column ⌝ }
-    ensures { λ r. ⌜ r ≡ listed (neighbours rows columns (row * columns + column)) ⌝ }
+    ensures { λ r. ⌜ r ≡ listed (neighbours edgeless rows columns (row * columns + column)) ⌝ }
 {
     let own = cell_number(rows, columns, row, column);
-    let w = window_of(rows, columns, row, column);
+    let w = window_of(edgeless, rows, columns, row, column);
     let top = w.top;
     let bottom = w.bottom;
     let left = w.left;
@@ -75,8 +94,9 @@ pub fn neighbours_of(rows: usize, columns: usize, row: usize, column: usize) -> 
     let mut cells = [0u16; 8];
     let mut len = 0;
     for m in top..bottom {
+        let near_row = fold(rows, m);
         for n in left..right {
-            let c = cell_number(rows, columns, m, n);
+            let c = cell_number(rows, columns, near_row, fold(columns, n));
             if c != own {
                 cells[len] = c as u16;
                 len += 1;
@@ -88,6 +108,7 @@ pub fn neighbours_of(rows: usize, columns: usize, row: usize, column: usize) -> 
 
 // Does a neighbour of the cell show `value`? The search stops at the first one found.
 pub fn shown_beside(
+    edgeless: bool,
     rows: usize,
     columns: usize,
     cells: &[u8],
@@ -97,18 +118,19 @@ pub fn shown_beside(
 ) -> bool
     requires { ⌜ Board (now cells) rows columns ⌝ }
     requires { ⌜ On rows columns row column ⌝ }
-    ensures { λ r. ⌜ r ≡ any (λ d. eqb (cellOf (now (cells .entry)) d) value) (neighbours rows columns (row * columns + column)) ⌝ }
+    ensures { λ r. ⌜ r ≡ any (λ d. eqb (cellOf (now (cells .entry)) d) value) (neighbours edgeless rows columns (row * columns + column)) ⌝ }
 {
     let own = cell_number(rows, columns, row, column);
-    let w = window_of(rows, columns, row, column);
+    let w = window_of(edgeless, rows, columns, row, column);
     let top = w.top;
     let bottom = w.bottom;
     let left = w.left;
     let right = w.right;
     let mut found = false;
     'outer: for m in top..bottom {
+        let near_row = fold(rows, m);
         for n in left..right {
-            let cell = cell_number(rows, columns, m, n);
+            let cell = cell_number(rows, columns, near_row, fold(columns, n));
             if cell != own {
                 if cells[cell] == value {
                     found = true;
@@ -122,6 +144,7 @@ pub fn shown_beside(
 
 // How many neighbours of the cell show `value`.
 pub fn count_beside(
+    edgeless: bool,
     rows: usize,
     columns: usize,
     cells: &[u8],
@@ -131,9 +154,9 @@ pub fn count_beside(
 ) -> usize
     requires { ⌜ Board (now cells) rows columns ⌝ }
     requires { ⌜ On rows columns row column ⌝ }
-    ensures { λ r. ⌜ r ≡ count (λ d. eqb (cellOf (now (cells .entry)) d) value) (neighbours rows columns (row * columns + column)) ⌝ }
+    ensures { λ r. ⌜ r ≡ count (λ d. eqb (cellOf (now (cells .entry)) d) value) (neighbours edgeless rows columns (row * columns + column)) ⌝ }
 {
-    let near = neighbours_of(rows, columns, row, column);
+    let near = neighbours_of(edgeless, rows, columns, row, column);
     let listed = near.cells;
     let len = near.len;
     let mut found = 0;
@@ -146,8 +169,9 @@ pub fn count_beside(
     found
 }
 
-// The neighbours of the cell that show `value`, in reading order.
+// The neighbours of the cell that show `value`, in that order.
 pub fn neighbours_showing(
+    edgeless: bool,
     rows: usize,
     columns: usize,
     cells: &[u8],
@@ -157,9 +181,9 @@ pub fn neighbours_showing(
 ) -> Neighbours
     requires { ⌜ Board (now cells) rows columns ⌝ }
     requires { ⌜ On rows columns row column ⌝ }
-    ensures { λ r. ⌜ r ≡ listed (keep (λ d. eqb (cellOf (now (cells .entry)) d) value) (neighbours rows columns (row * columns + column))) ⌝ }
+    ensures { λ r. ⌜ r ≡ listed (keep (λ d. eqb (cellOf (now (cells .entry)) d) value) (neighbours edgeless rows columns (row * columns + column))) ⌝ }
 {
-    let near = neighbours_of(rows, columns, row, column);
+    let near = neighbours_of(edgeless, rows, columns, row, column);
     let all = near.cells;
     let most = near.len;
     let mut kept = [0u16; 8];

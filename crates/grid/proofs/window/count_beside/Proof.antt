@@ -16,13 +16,13 @@ use Rattle.grid.proofs.window.count_beside.Statement.{statement}
 use Rattle.grid.proofs.window.count_beside.Tie as tie
 
 abbrev Inv-loop : tie.InvT-loop
-Inv-loop rows columns cells row column value listed len found₀ t₀ found t =
-    (found + count (λ d. eqb (cellOf cells d) value) (drop t (neighbours rows columns (row * columns + column)))
-    ≡ count (λ d. eqb (cellOf cells d) value) (neighbours rows columns (row * columns + column)))
+Inv-loop edgeless rows columns cells row column value listed len found₀ t₀ found t =
+    (found + count (λ d. eqb (cellOf cells d) value) (drop t (neighbours edgeless rows columns (row * columns + column)))
+    ≡ count (λ d. eqb (cellOf cells d) value) (neighbours edgeless rows columns (row * columns + column)))
     × (found ≤ t)
 
 abbrev μ-loop : tie.MeasureT-loop
-μ-loop rows columns cells row column value listed len found₀ t₀ found t = len - t
+μ-loop edgeless rows columns cells row column value listed len found₀ t₀ found t = len - t
 
 neighbours-of-requires : tie.Need-neighbours-of-requires Inv-loop μ-loop
 neighbours-of-requires c κs = search needs
@@ -34,7 +34,7 @@ loop-holds c = (omega arith, omega arith)
 inside : (c : tie.In-loop Inv-loop μ-loop) → c .before .loop .t < 8
 inside c =
     let before = c .loop-test .taken in
-    omega (arith, near-few _ _ _ _ _ (c .before .before .before .before .before .pre .1) (c .before .before .before .neighbours-of .ensures))
+    omega (arith, near-few _ _ _ _ _ _ (c .before .before .before .before .before .pre .1) (c .before .before .before .neighbours-of .ensures))
 
 mul-wide : tie.Need-mul-wide Inv-loop μ-loop
 mul-wide c = omega (arith, inside c)
@@ -49,7 +49,7 @@ shared-slice-read-if1 : tie.Need-shared-slice-read-if1 Inv-loop μ-loop
 shared-slice-read-if1 c =
     let near = c .before .before .before .before .before .neighbours-of .ensures in
     let pre = c .before .before .before .before .before .before .before .pre in
-    omega (arith, near-on _ _ _ _ _ (pre .1) near _ _ (c .before .before .loop-test .taken) (c .before .wide .ensures), pre .0 .whole)
+    omega (arith, near-on _ _ _ _ _ _ (pre .1) near _ _ (c .before .before .loop-test .taken) (c .before .wide .ensures), pre .0 .whole)
 
 add-found : tie.Need-add-found Inv-loop μ-loop
 add-found c = search needs
@@ -64,7 +64,7 @@ loop-again : tie.Need-loop-again Inv-loop μ-loop
 loop-again c =
     let near = c .before .before .before .before .before .before .neighbours-of .ensures in
     let on = c .before .before .before .before .before .before .before .before .pre .1 in
-    let next = near-more _ _ _ _ _ on near _ _ (c .before .before .before .loop-test .taken) (c .before .before .wide .ensures) in
+    let next = near-more _ _ _ _ _ _ on near _ _ (c .before .before .before .loop-test .taken) (c .before .before .wide .ensures) in
     let inv = rw next at (c .before .before .before .before .loop .inv .0) in
     ⊎-elim
     (λ w. (omega (arith, rw (eq-eqb _ _ (w .0 .taken)) at inv), omega arith))
@@ -74,7 +74,7 @@ loop-again c =
 returns : tie.Need-returns Inv-loop μ-loop
 returns c =
     let near = c .before .before .before .neighbours-of .ensures in
-    let none = near-none _ _ _ _ _ (c .before .before .before .before .before .pre .1) near _ (c .loop-test .left) in
+    let none = near-none _ _ _ _ _ _ (c .before .before .before .before .before .pre .1) near _ (c .loop-test .left) in
     omega (arith, rw none at (c .before .loop .inv .0))
 
 pub count-beside-spec : {M : Type 1} → statement M

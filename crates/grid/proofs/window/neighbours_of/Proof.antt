@@ -2,30 +2,31 @@
 -- cell itself, are the cell's neighbours. These are at most eight, so there is room for each. The measures are the rows and the columns left.
 -- Rests on the laws of `Walk` and `Collected`. Assumes nothing.
 use Prim.Native.Nat.{_+_, _-_, _*_, _<_}
+use mathlib.Core.Path.{_≡_, _∙_}
 use mathlib.Core.Logic.{⊎-elim}
 use native.Mathlib.Omega.{arith}
 use borrow.Author.Needs.{needs}
 use Rattle.lists.specs.Lists.{without}
-use Rattle.grid.specs.Window.{neighbours}
-use Rattle.grid.proofs.Neighbours.{cell-few}
+use Rattle.grid.specs.Window.{folded, neighbours}
+use Rattle.grid.proofs.Neighbours.{neighbours-few}
 use Rattle.grid.proofs.Walk.{rowsFrom, cellsFrom, enter, leave, done, pass-other, pass-own, walk-neighbours}
 use Rattle.lists.proofs.Collected.{Collected, collected-none, collected-room, collected-push, collected-all}
 use Rattle.grid.proofs.window.neighbours_of.Statement.{statement}
 use Rattle.grid.proofs.window.neighbours_of.Tie as tie
 
 abbrev Inv-loop2 : tie.InvT-loop2
-Inv-loop2 rows columns row column own top bottom left right cells₀ len₀ m n₀ cells len n =
-    Collected 8 cells len (without own (cellsFrom columns left right bottom m n)) (neighbours rows columns (row * columns + column))
+Inv-loop2 edgeless rows columns row column own top bottom left right cells₀ len₀ m near-row n₀ cells len n =
+    Collected 8 cells len (without own (cellsFrom rows columns left right bottom m n)) (neighbours edgeless rows columns (row * columns + column))
 
 abbrev μ-loop2 : tie.MeasureT-loop2
-μ-loop2 rows columns row column own top bottom left right cells₀ len₀ m n₀ cells len n = right - n
+μ-loop2 edgeless rows columns row column own top bottom left right cells₀ len₀ m near-row n₀ cells len n = right - n
 
 abbrev Inv-loop : tie.InvT-loop
-Inv-loop rows columns row column own top bottom left right cells₀ len₀ m₀ cells len m =
-    Collected 8 cells len (without own (rowsFrom columns left right bottom m)) (neighbours rows columns (row * columns + column))
+Inv-loop edgeless rows columns row column own top bottom left right cells₀ len₀ m₀ cells len m =
+    Collected 8 cells len (without own (rowsFrom rows columns left right bottom m)) (neighbours edgeless rows columns (row * columns + column))
 
 abbrev μ-loop : tie.MeasureT-loop
-μ-loop rows columns row column own top bottom left right cells₀ len₀ m₀ cells len m = bottom - m
+μ-loop edgeless rows columns row column own top bottom left right cells₀ len₀ m₀ cells len m = bottom - m
 
 cell-number-requires : tie.Need-cell-number-requires Inv-loop2 μ-loop2 Inv-loop μ-loop
 cell-number-requires c κs = search needs
@@ -35,24 +36,39 @@ window-of-requires c κs = search needs
 
 loop-holds : tie.Need-loop-holds Inv-loop2 μ-loop2 Inv-loop μ-loop
 loop-holds c =
-    let on = c .before .before .pre .1 in
-    rw (walk-neighbours _ _ _ _ _ _ on (c .window-of .ensures .is) (c .before .cell-number .ensures .0)) (collected-none 8 _)
+    let s = c .before .before in
+    let on = s .pre .1 in
+    rw (walk-neighbours (s .args .edgeless) _ _ _ _ _ _ on (c .window-of .ensures .is) (c .before .cell-number .ensures .0)) (collected-none 8 _)
 
 loop2-holds : tie.Need-loop2-holds Inv-loop2 μ-loop2 Inv-loop μ-loop
-loop2-holds c = let h = c .loop-test .taken in rw enter at (c .before .loop .inv)
+loop2-holds c = let h = c .before .loop-test .taken in rw enter at (c .before .before .loop .inv)
+
+-- a line of the window is below twice the size
+fold-requires : tie.Need-fold-requires Inv-loop2 μ-loop2 Inv-loop μ-loop
+fold-requires c κs = omega (arith, c .loop-test .taken, c .before .before .window-of .ensures .below)
+
+fold-requires-2 : tie.Need-fold-requires-2 Inv-loop2 μ-loop2 Inv-loop μ-loop
+fold-requires-2 c κs = omega (arith, c .loop2-test .taken, c .before .before .before .before .before .window-of .ensures .beside)
 
 cell-number-requires-2 : tie.Need-cell-number-requires-2 Inv-loop2 μ-loop2 Inv-loop μ-loop
 cell-number-requires-2 c κs = search needs
 
+-- the next cell, by its folded row and column
+here : (c : tie.After-cell-number2 Inv-loop2 μ-loop2 Inv-loop μ-loop)
+    → c .cell-number2 .result ≡ folded (c .before .before .before .before .before .before .before .before .before .args .rows) (c .before .before .before .before .before .before .loop .m)
+    * c .before .before .before .before .before .before .before .before .before .args .columns
+    + folded (c .before .before .before .before .before .before .before .before .before .args .columns) (c .before .before .before .loop2 .n)
+here c = c .cell-number2 .ensures .0 ∙ rw (c .before .before .before .before .fold .ensures .0, c .before .fold2 .ensures .0)
+
 -- there is room for the next cell
-room : (c : tie.Then1 Inv-loop2 μ-loop2 Inv-loop μ-loop) → c .before .before .before .loop2 .len < 8
+room : (c : tie.Then1 Inv-loop2 μ-loop2 Inv-loop μ-loop) → c .before .before .before .before .loop2 .len < 8
 room c =
-    let before = c .before .before .loop2-test .taken in
-    let at = c .before .cell-number2 .ensures .0 in
+    let before = c .before .before .before .loop2-test .taken in
+    let at = here (c .before) in
     let other = c .if1 .taken in
     collected-room
-    (rw (pass-other (c .before .cell-number2 .result)) at (c .before .before .before .loop2 .inv))
-    (cell-few _ _ _ _ (c .before .before .before .before .before .before .before .before .pre .1))
+    (rw (pass-other (c .before .cell-number2 .result)) at (c .before .before .before .before .loop2 .inv))
+    (neighbours-few _ _ _ _)
 
 cast-cells : tie.Need-cast-cells Inv-loop2 μ-loop2 Inv-loop μ-loop
 cast-cells c = search needs
@@ -74,10 +90,10 @@ loop2-less c = search needs
 
 loop2-again : tie.Need-loop2-again Inv-loop2 μ-loop2 Inv-loop μ-loop
 loop2-again c =
-    let before = c .before .before .loop2-test .taken in
-    let at = c .before .cell-number2 .ensures .0 in
-    let few = cell-few _ _ _ _ (c .before .before .before .before .before .before .before .before .pre .1) in
-    let inv = c .before .before .before .loop2 .inv in
+    let before = c .before .before .before .loop2-test .taken in
+    let at = here (c .before) in
+    let few = neighbours-few _ _ _ _ in
+    let inv = c .before .before .before .before .loop2 .inv in
     ⊎-elim
     (λ w. let other = w .0 .taken in rw (w .1, w .2) (collected-push (rw (pass-other (c .before .cell-number2 .result)) at inv) few))
     (λ w. let own = w .0 .left in rw (w .1, w .2) (rw (pass-own (c .before .cell-number2 .result)) at inv))
@@ -109,7 +125,9 @@ neighbours-of-spec =
     cell-number-requires
     window-of-requires
     loop-holds
+    fold-requires
     loop2-holds
+    fold-requires-2
     cell-number-requires-2
     cast-cells
     mul-cells

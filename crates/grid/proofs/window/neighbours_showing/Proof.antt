@@ -12,23 +12,23 @@ use borrow.Author.Tests.{eq-eqb, ne-eqb}
 use Rattle.lists.specs.Lists.{keep}
 use Rattle.grid.specs.Cells.{cellOf}
 use Rattle.grid.specs.Window.{neighbours}
-use Rattle.grid.proofs.Neighbours.{cell-few}
+use Rattle.grid.proofs.Neighbours.{neighbours-few}
 use Rattle.lists.proofs.Collected.{Collected, keep-few, collected-none, collected-room, collected-push, collected-all}
 use Rattle.grid.proofs.Listed.{near-few, near-on, near-more, near-none}
 use Rattle.grid.proofs.window.neighbours_showing.Statement.{statement}
 use Rattle.grid.proofs.window.neighbours_showing.Tie as tie
 
 abbrev Inv-loop : tie.InvT-loop
-Inv-loop rows columns cells row column value all most kept₀ len₀ t₀ kept len t =
+Inv-loop edgeless rows columns cells row column value all most kept₀ len₀ t₀ kept len t =
     Collected
     8
     kept
     len
-    (keep (λ d. eqb (cellOf cells d) value) (drop t (neighbours rows columns (row * columns + column))))
-    (keep (λ d. eqb (cellOf cells d) value) (neighbours rows columns (row * columns + column)))
+    (keep (λ d. eqb (cellOf cells d) value) (drop t (neighbours edgeless rows columns (row * columns + column))))
+    (keep (λ d. eqb (cellOf cells d) value) (neighbours edgeless rows columns (row * columns + column)))
 
 abbrev μ-loop : tie.MeasureT-loop
-μ-loop rows columns cells row column value all most kept₀ len₀ t₀ kept len t = most - t
+μ-loop edgeless rows columns cells row column value all most kept₀ len₀ t₀ kept len t = most - t
 
 neighbours-of-requires : tie.Need-neighbours-of-requires Inv-loop μ-loop
 neighbours-of-requires c κs = search needs
@@ -38,7 +38,7 @@ loop-holds c = collected-none 8 _
 
 -- the cell's neighbours
 abbrev beside : tie.Start Inv-loop μ-loop → List ℕ
-beside s = neighbours (s .args .rows) (s .args .columns) (s .args .row * s .args .columns + s .args .column)
+beside s = neighbours (s .args .edgeless) (s .args .rows) (s .args .columns) (s .args .row * s .args .columns + s .args .column)
 
 -- the value is shown there
 abbrev shown : tie.Start Inv-loop μ-loop → ℕ → Bool
@@ -46,13 +46,13 @@ shown s d = eqb (cellOf (s .args .cells .now) d) (s .args .value)
 
 -- at most eight neighbours show it
 few : (s : tie.Start Inv-loop μ-loop) → length (keep (shown s) (beside s)) ≤ 8
-few s = keep-few (shown s) (beside s) (cell-few _ _ _ _ (s .pre .1))
+few s = keep-few (shown s) (beside s) (neighbours-few _ _ _ _)
 
 -- the loop is inside the array
 inside : (c : tie.In-loop Inv-loop μ-loop) → c .before .loop .t < 8
 inside c =
     let before = c .loop-test .taken in
-    omega (arith, near-few _ _ _ _ _ (c .before .before .before .before .before .pre .1) (c .before .before .before .neighbours-of .ensures))
+    omega (arith, near-few _ _ _ _ _ _ (c .before .before .before .before .before .pre .1) (c .before .before .before .neighbours-of .ensures))
 
 mul-number : tie.Need-mul-number Inv-loop μ-loop
 mul-number c = omega (arith, inside c)
@@ -67,14 +67,14 @@ shared-slice-read-if1 : tie.Need-shared-slice-read-if1 Inv-loop μ-loop
 shared-slice-read-if1 c =
     let near = c .before .before .before .before .before .neighbours-of .ensures in
     let pre = c .before .before .before .before .before .before .before .pre in
-    omega (arith, near-on _ _ _ _ _ (pre .1) near _ _ (c .before .before .loop-test .taken) (c .before .wide .ensures), pre .0 .whole)
+    omega (arith, near-on _ _ _ _ _ _ (pre .1) near _ _ (c .before .before .loop-test .taken) (c .before .wide .ensures), pre .0 .whole)
 
 -- there is room for the next cell
 room : (c : tie.Then1 Inv-loop μ-loop) → c .before .before .before .before .loop .len < 8
 room c =
     let near = c .before .before .before .before .before .before .neighbours-of .ensures in
     let start = c .before .before .before .before .before .before .before .before in
-    let next = near-more _ _ _ _ _ (start .pre .1) near _ _ (c .before .before .before .loop-test .taken) (c .before .before .wide .ensures) in
+    let next = near-more _ _ _ _ _ _ (start .pre .1) near _ _ (c .before .before .before .loop-test .taken) (c .before .before .wide .ensures) in
     let inv = rw next at (c .before .before .before .before .loop .inv) in
     collected-room (rw (eq-eqb _ _ (c .if1 .taken)) at inv) (few start)
 
@@ -98,7 +98,7 @@ loop-again c =
     let near = c .before .before .before .before .before .before .neighbours-of .ensures in
     let start = c .before .before .before .before .before .before .before .before in
     let at = c .before .before .wide .ensures in
-    let next = near-more _ _ _ _ _ (start .pre .1) near _ _ (c .before .before .before .loop-test .taken) at in
+    let next = near-more _ _ _ _ _ _ (start .pre .1) near _ _ (c .before .before .before .loop-test .taken) at in
     let inv = rw next at (c .before .before .before .before .loop .inv) in
     ⊎-elim
     (λ w. rw (w .1, w .2, ← at) (collected-push (rw (eq-eqb _ _ (w .0 .taken)) at inv) (few start)))
@@ -108,7 +108,7 @@ loop-again c =
 returns : tie.Need-returns Inv-loop μ-loop
 returns c =
     let near = c .before .before .before .neighbours-of .ensures in
-    let none = near-none _ _ _ _ _ (c .before .before .before .before .before .pre .1) near _ (c .loop-test .left) in
+    let none = near-none _ _ _ _ _ _ (c .before .before .before .before .before .pre .1) near _ (c .loop-test .left) in
     let all = collected-all (rw none at (c .before .loop .inv)) in
     rw (all .0, all .1)
 

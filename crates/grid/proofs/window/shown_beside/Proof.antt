@@ -6,32 +6,33 @@ use mathlib.Core.Path.{_≡_, refl, _∙_}
 use mathlib.Core.Logic.{⊎-elim}
 use mathlib.Core.Bool.{false}
 use lib.Dec.{eqb}
+use native.Mathlib.Omega.{arith}
 use borrow.Author.Needs.{needs}
 use borrow.Author.Tests.{eq-eqb, ne-eqb}
 use Rattle.lists.specs.Lists.{any, without}
 use Rattle.grid.specs.Cells.{cellOf}
-use Rattle.grid.specs.Window.{neighbours}
+use Rattle.grid.specs.Window.{folded, neighbours}
 use Rattle.grid.proofs.Walk.{rowsFrom, cellsFrom, enter, leave, done, pass-other, pass-own, walk-neighbours}
 use Rattle.grid.proofs.window.shown_beside.Statement.{statement}
 use Rattle.grid.proofs.window.shown_beside.Tie as tie
 
 abbrev Inv-loop : tie.InvT-loop
-Inv-loop rows columns cells row column value own top bottom left right found₀ m n₀ found n =
+Inv-loop edgeless rows columns cells row column value own top bottom left right found₀ m near-row n₀ found n =
     (found ≡ false)
-    × (any (λ d. eqb (cellOf cells d) value) (without own (cellsFrom columns left right bottom m n))
-    ≡ any (λ d. eqb (cellOf cells d) value) (neighbours rows columns (row * columns + column)))
+    × (any (λ d. eqb (cellOf cells d) value) (without own (cellsFrom rows columns left right bottom m n))
+    ≡ any (λ d. eqb (cellOf cells d) value) (neighbours edgeless rows columns (row * columns + column)))
 
 abbrev μ-loop : tie.MeasureT-loop
-μ-loop rows columns cells row column value own top bottom left right found₀ m n₀ found n = right - n
+μ-loop edgeless rows columns cells row column value own top bottom left right found₀ m near-row n₀ found n = right - n
 
 abbrev Inv-outer : tie.InvT-outer
-Inv-outer rows columns cells row column value own top bottom left right found₀ m₀ found m =
+Inv-outer edgeless rows columns cells row column value own top bottom left right found₀ m₀ found m =
     (found ≡ false)
-    × (any (λ d. eqb (cellOf cells d) value) (without own (rowsFrom columns left right bottom m))
-    ≡ any (λ d. eqb (cellOf cells d) value) (neighbours rows columns (row * columns + column)))
+    × (any (λ d. eqb (cellOf cells d) value) (without own (rowsFrom rows columns left right bottom m))
+    ≡ any (λ d. eqb (cellOf cells d) value) (neighbours edgeless rows columns (row * columns + column)))
 
 abbrev μ-outer : tie.MeasureT-outer
-μ-outer rows columns cells row column value own top bottom left right found₀ m₀ found m = bottom - m
+μ-outer edgeless rows columns cells row column value own top bottom left right found₀ m₀ found m = bottom - m
 
 cell-number-requires : tie.Need-cell-number-requires Inv-loop μ-loop Inv-outer μ-outer
 cell-number-requires c κs = search needs
@@ -41,11 +42,26 @@ window-of-requires c κs = search needs
 
 outer-holds : tie.Need-outer-holds Inv-loop μ-loop Inv-outer μ-outer
 outer-holds c =
-    let on = c .before .before .before .pre .1 in
-    (refl, rw (walk-neighbours _ _ _ _ _ _ on (c .window-of .ensures .is) (c .before .cell-number .ensures .0)))
+    let s = c .before .before .before in
+    let on = s .pre .1 in
+    (refl, rw (walk-neighbours (s .args .edgeless) _ _ _ _ _ _ on (c .window-of .ensures .is) (c .before .cell-number .ensures .0)))
 
 loop-holds : tie.Need-loop-holds Inv-loop μ-loop Inv-outer μ-outer
-loop-holds c = let h = c .outer-test .taken in (search needs, rw enter at (c .before .outer .inv .1))
+loop-holds c = let h = c .before .outer-test .taken in (search needs, rw enter at (c .before .before .outer .inv .1))
+
+-- a line of the window is below twice the size
+fold-requires : tie.Need-fold-requires Inv-loop μ-loop Inv-outer μ-outer
+fold-requires c κs = omega (arith, c .outer-test .taken, c .before .before .window-of .ensures .below)
+
+fold-requires-2 : tie.Need-fold-requires-2 Inv-loop μ-loop Inv-outer μ-outer
+fold-requires-2 c κs = omega (arith, c .loop-test .taken, c .before .before .before .before .before .window-of .ensures .beside)
+
+-- the next cell, by its folded row and column
+here : (c : tie.After-cell-number2 Inv-loop μ-loop Inv-outer μ-outer)
+    → c .cell-number2 .result ≡ folded (c .before .before .before .before .before .before .before .before .before .before .args .rows) (c .before .before .before .before .before .before .outer .m)
+    * c .before .before .before .before .before .before .before .before .before .before .args .columns
+    + folded (c .before .before .before .before .before .before .before .before .before .before .args .columns) (c .before .before .before .loop .n)
+here c = c .cell-number2 .ensures .0 ∙ rw (c .before .before .before .before .fold .ensures .0, c .before .fold2 .ensures .0)
 
 cell-number-requires-2 : tie.Need-cell-number-requires-2 Inv-loop μ-loop Inv-outer μ-outer
 cell-number-requires-2 c κs = search needs
@@ -61,9 +77,9 @@ loop-less c = search needs
 
 loop-again : tie.Need-loop-again Inv-loop μ-loop Inv-outer μ-outer
 loop-again c =
-    let before = c .before .before .loop-test .taken in
-    let at = c .before .cell-number2 .ensures .0 in
-    let inv = c .before .before .before .loop .inv .1 in (
+    let before = c .before .before .before .loop-test .taken in
+    let at = here (c .before) in
+    let inv = c .before .before .before .before .loop .inv .1 in (
       search needs,
       ⊎-elim
           (λ w. let other = w .0 .taken in rw (ne-eqb _ _ (w .2 .left)) at (rw (pass-other (c .before .cell-number2 .result)) at inv))
@@ -85,10 +101,10 @@ returns c = let h = c .outer-test .left in c .before .outer .inv .0 ∙ (rw done
 
 returns-2 : tie.Need-returns-2 Inv-loop μ-loop Inv-outer μ-outer
 returns-2 c =
-    let before = c .before .before .before .before .loop-test .taken in
-    let at = c .before .before .before .cell-number2 .ensures .0 in
+    let before = c .before .before .before .before .before .loop-test .taken in
+    let at = here (c .before .before .before) in
     let other = c .before .before .if1 .taken in
-    let inv = rw (pass-other (c .before .before .before .cell-number2 .result)) at (c .before .before .before .before .before .loop .inv .1) in
+    let inv = rw (pass-other (c .before .before .before .cell-number2 .result)) at (c .before .before .before .before .before .before .loop .inv .1) in
     rw (eq-eqb _ _ (c .if2 .taken)) at inv
 
 pub shown-beside-spec : {M : Type 1} → statement M
@@ -102,7 +118,9 @@ shown-beside-spec =
     cell-number-requires
     window-of-requires
     outer-holds
+    fold-requires
     loop-holds
+    fold-requires-2
     cell-number-requires-2
     shared-slice-read-if2
     add-n
