@@ -2,7 +2,7 @@
 -- has its number of neighbouring mines. Rests on what an acceptance tells (`refusals`). Assumes nothing.
 use mathlib.Core.Path.{_≡_, sym, _∙_}
 use mathlib.Core.Logic.{_⊎_, inl, inr, _≢_}
-use mathlib.Core.Bool.{true, _||_}
+use mathlib.Core.Bool.{Bool, true, _||_}
 use mathlib.Core.List.{List}
 use Prim.Native.Nat.{ℕ, _≤_, _<_}
 use lib.ListN.{length}
@@ -46,7 +46,7 @@ module _ (near : ℕ → List ℕ) (b : List ℕ) where
       go c l (inr e) = or-right (eqb (cellOf b c) 255) (eqb (minesBeside near b c) (cellOf b c)) (eq-eqb (minesBeside near b c) (cellOf b c) (sym (own-beside c) ∙ ok .true-number c l (eqb-false (cellOf b c) 255 e)))
 
 -- a board call whose tests all pass is about an accepted board
-pub tested-accepted : (rows columns row column : ℕ) (b : List ℕ) (n : ℕ) → boardTested rows columns row column b n ≡ TestsPassed
-    → Accepted (neighbours rows columns) b
-tested-accepted rows columns row column b n h =
-    let a = accepted-board rows columns row column b n h in tests-accept (neighbours rows columns) b (a .cells) (a .numbers)
+pub tested-accepted : (edgeless : Bool) (rows columns row column : ℕ) (b : List ℕ) (n : ℕ) → boardTested edgeless rows columns row column b n ≡ TestsPassed
+    → Accepted (neighbours edgeless rows columns) b
+tested-accepted edgeless rows columns row column b n h =
+    let a = accepted-board edgeless rows columns row column b n h in tests-accept (neighbours edgeless rows columns) b (a .cells) (a .numbers)

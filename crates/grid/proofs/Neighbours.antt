@@ -20,6 +20,7 @@ use Rattle.lists.proofs.Members.{has-head, has-tail, has-append, has-keep, kept
 use Rattle.lists.proofs.Counts.{count-out}
 use Rattle.grid.specs.Window.{before, after, around, lowAt, highAt, block, neighbours, Sized, On}
 use Rattle.lists.proofs.Rearranged.{count-all, length-range}
+use Rattle.grid.proofs.Places.{some-column}
 
 -- ---- the rows, or the columns, around one of them
 
@@ -345,9 +346,10 @@ module _ (edgeless : Bool) (rows columns c : ℕ) where
       let (at-row, at-column) = placed d (in-window d h) in
       rw div-add-mod' at (digits-lt (at-row .0) (at-column .0))
 
-pub neighbours-mutual : (edgeless : Bool) (rows columns c d : ℕ) → c < rows * columns → 0 < columns → has (neighbours edgeless rows columns c) d ≡ true
+pub neighbours-mutual : (edgeless : Bool) (rows columns c d : ℕ) → c < rows * columns → has (neighbours edgeless rows columns c) d ≡ true
     → has (neighbours edgeless rows columns d) c ≡ true
-neighbours-mutual edgeless rows columns c d l p h =
+neighbours-mutual edgeless rows columns c d l h =
+    let p = some-column rows columns c l in
     let all = sym (neighbours-has edgeless rows columns c d) ∙ h in
     let lines = and-right (not (eqb d c)) _ all in
     let other : d ≢ c = eqb-false d c (not-true (eqb d c) (and-left (not (eqb d c)) _ all)) in

@@ -1,7 +1,7 @@
 -- The neighbour window (SPECIFICATION 2.4). This is the only place that knows which cells touch:
 -- every other definition takes the neighbours of a cell as a function `near` from a cell's number to a list. Assumes nothing.
 use mathlib.Core.Path.{_≡_}
-use mathlib.Core.Bool.{Bool, cond, _&&_}
+use mathlib.Core.Bool.{Bool, false, cond, _&&_}
 use mathlib.Core.List.{List, [], _∷_, _++_, map}
 use Prim.Native.Nat.{ℕ, _+_, _-_, _*_, _/_, _%_, _≤_, _<_, min}
 use lib.Dec.{leb, ltb, eqb}
@@ -27,6 +27,10 @@ around edgeless size i =
 abbrev pub block : ℕ → List ℕ → List ℕ → List ℕ
 block columns [] js = []
 block columns (i ∷ is) js = map (λ (j : ℕ). i * columns + j) js ++ block columns is js
+
+-- a board with an edge, the kind that every caller has
+abbrev pub flat : Bool
+flat = false
 
 -- the cells that touch a cell, from the row above to the row below and from left to right; on a board with an edge that is the reading order
 unfoldable pub neighbours : Bool → ℕ → ℕ → ℕ → List ℕ

@@ -7,6 +7,9 @@ ghost use Rattle.lists.specs.Lists.{any, count, keep};
 ghost use Rattle.grid.specs.Cells.{cellOf};
 ghost use Rattle.grid.specs.Window.{lowAt, highAt, folded, neighbours, listed, Sized, Board, On, Around};
 
+// A board with an edge, the kind that every caller has.
+pub const FLAT: bool = false;
+
 // The rows from top up to bottom and the columns from left up to right, the ends left out: a cell and its neighbours.
 pub struct Window {
     pub top: usize,

@@ -2,7 +2,7 @@
 -- and on the rule of the first failure. Assumes nothing.
 use mathlib.Core.Path.{_≡_}
 use mathlib.Core.Logic.{_⊎_, _≢_}
-use mathlib.Core.Bool.{true, _&&_}
+use mathlib.Core.Bool.{Bool, true, _&&_}
 use mathlib.Core.List.{List}
 use Prim.Native.Nat.{ℕ, _*_, _≤_, _<_}
 use lib.ListN.{length}
@@ -18,14 +18,14 @@ use Rattle.refusals.proofs.Numbers.{numberOk, number-counts}
 use Rattle.refusals.proofs.FirstFailure.{accepted-on}
 pub use Rattle.refusals.proofs.Sides.{few-cells, sizeOk-sized, sizeOk-rows, sizeOk-columns, lengthOk-is, roomOk-fits}
 
-pub record AcceptedBoard (rows columns row column : ℕ) (b : List ℕ) (n : ℕ) : Type 0 where
+pub record AcceptedBoard (edgeless : Bool) (rows columns row column : ℕ) (b : List ℕ) (n : ℕ) : Type 0 where
   pub board : Board b rows columns
   pub some-rows : 1 ≤ rows
   pub some-columns : 1 ≤ columns
   pub picture : n ≡ rows * columns
   pub cells : boardCellsOk b ≡ true
   pub start : startOk rows columns row column ≡ true
-  pub numbers : numbersOk (neighbours rows columns) b ≡ true
+  pub numbers : numbersOk (neighbours edgeless rows columns) b ≡ true
   pub has-zero : zeroOk row column b ≡ true
   pub start-within : startCell columns row column b < length b
 
@@ -51,16 +51,16 @@ sized-board : (least rows columns : ℕ) (b : List ℕ) → sizeOk least rows co
 sized-board least rows columns b size whole =
     record { sized = sizeOk-sized least rows columns size; whole = lengthOk-is rows columns (length b) whole }
 
-pub accepted-board : (rows columns row column : ℕ) (b : List ℕ) (n : ℕ) → boardTested rows columns row column b n ≡ Accepted → AcceptedBoard rows columns row column b n
+pub accepted-board : (edgeless : Bool) (rows columns row column : ℕ) (b : List ℕ) (n : ℕ) → boardTested edgeless rows columns row column b n ≡ Accepted → AcceptedBoard edgeless rows columns row column b n
 unfolding boardTested
-accepted-board rows columns row column b n h =
+accepted-board edgeless rows columns row column b n h =
     let own = lengthOk rows columns (length b) in
     let lent = lengthOk rows columns n in
     let (size, after-size) = accepted-on (sizeOk 1 rows columns) _ _ h in
     let (lengths, after-lengths) = accepted-on (own && lent) _ _ after-size in
     let (cells, after-cells) = accepted-on (boardCellsOk b) _ _ after-lengths in
     let (start, after-start) = accepted-on (startOk rows columns row column) _ _ after-cells in
-    let (numbers, after-numbers) = accepted-on (numbersOk (neighbours rows columns) b) _ _ after-start in
+    let (numbers, after-numbers) = accepted-on (numbersOk (neighbours edgeless rows columns) b) _ _ after-start in
     let (has-zero, _) = accepted-on (zeroOk row column b) _ _ after-numbers in
     let board = sized-board 1 rows columns b size (and-left own lent lengths) in
     record {

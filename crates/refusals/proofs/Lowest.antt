@@ -1,7 +1,7 @@
 -- Lowest number first where several apply (SPECIFICATION 3.2), of each kind of call: its tests stand in the order of their numbers, so every other test
 -- that fails has a number that isn't lower than the refusal's. Rests on `refused-lowest`. Assumes nothing.
 use mathlib.Core.Path.{_≡_, refl}
-use mathlib.Core.Bool.{true}
+use mathlib.Core.Bool.{Bool, true}
 use mathlib.Core.List.{List}
 use Prim.Native.Nat.{ℕ}
 use Rattle.refusals.specs.declared.Refusal.{Refusal}
@@ -10,10 +10,10 @@ use Rattle.refusals.specs.Refusals.{refusalNumber}
 use Rattle.refusals.specs.Tests.{boardTests, boardTested, positionTests, positionTested, deductionTests, deductionTested, patternTests, patternTested}
 use Rattle.refusals.proofs.FirstFailure.{failsFrom, refused-lowest}
 
-pub board-lowest : (rows columns row column : ℕ) (b : List ℕ) (n : ℕ) (r : Refusal) → boardTested rows columns row column b n ≡ Refused r
-    → failsFrom (refusalNumber r) (boardTests rows columns row column b n) ≡ true
+pub board-lowest : (edgeless : Bool) (rows columns row column : ℕ) (b : List ℕ) (n : ℕ) (r : Refusal) → boardTested edgeless rows columns row column b n ≡ Refused r
+    → failsFrom (refusalNumber r) (boardTests edgeless rows columns row column b n) ≡ true
 unfolding boardTested
-board-lowest rows columns row column b n r h = refused-lowest (boardTests rows columns row column b n) r refl h
+board-lowest edgeless rows columns row column b n r h = refused-lowest (boardTests edgeless rows columns row column b n) r refl h
 
 pub position-lowest : (rows columns : ℕ) (p : List ℕ) (r : Refusal) → positionTested rows columns p ≡ Refused r
     → failsFrom (refusalNumber r) (positionTests rows columns p) ≡ true

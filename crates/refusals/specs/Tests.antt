@@ -60,18 +60,18 @@ abbrev pub numberThenZero : Bool → Bool → Tested
 numberThenZero numbers zero = tested (test numbers Number ∷ test zero NoZero ∷ [])
 
 -- a board call, lent a picture of n bytes
-abbrev pub boardTests : ℕ → ℕ → ℕ → ℕ → List ℕ → ℕ → List Test
-boardTests rows columns row column b n =
+abbrev pub boardTests : Bool → ℕ → ℕ → ℕ → ℕ → List ℕ → ℕ → List Test
+boardTests edgeless rows columns row column b n =
     test (sizeOk 1 rows columns) Size
     ∷ test (lengthOk rows columns (length b) && lengthOk rows columns n) Length
     ∷ test (boardCellsOk b) Cell
     ∷ test (startOk rows columns row column) Start
-    ∷ test (numbersOk (neighbours rows columns) b) Number
+    ∷ test (numbersOk (neighbours edgeless rows columns) b) Number
     ∷ test (zeroOk row column b) NoZero
     ∷ []
 
-unfoldable pub boardTested : ℕ → ℕ → ℕ → ℕ → List ℕ → ℕ → Tested
-boardTested rows columns row column b n = tested (boardTests rows columns row column b n)
+unfoldable pub boardTested : Bool → ℕ → ℕ → ℕ → ℕ → List ℕ → ℕ → Tested
+boardTested edgeless rows columns row column b n = tested (boardTests edgeless rows columns row column b n)
 
 -- a call on a position, lent nothing else that 2 measures
 abbrev pub positionTests : ℕ → ℕ → List ℕ → List Test

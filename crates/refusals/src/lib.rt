@@ -134,15 +134,15 @@ pub fn start_ok(rows: usize, columns: usize, row: usize, column: usize) -> bool
 }
 
 // Test 5: each safe cell's number is its count of neighbouring mines.
-pub fn numbers_ok(rows: usize, columns: usize, cells: &[u8]) -> bool
+pub fn numbers_ok(edgeless: bool, rows: usize, columns: usize, cells: &[u8]) -> bool
     requires { ⌜ Board (now cells) rows columns ⌝ }
-    ensures { λ r. ⌜ r ≡ numbersOk (neighbours rows columns) (now (cells .entry)) ⌝ }
+    ensures { λ r. ⌜ r ≡ numbersOk (neighbours edgeless rows columns) (now (cells .entry)) ⌝ }
 {
     let n = rows * columns;
     for c in 0..n {
         let v = cells[c];
         if v != 255 {
-            if count_beside(rows, columns, cells, c / columns, c % columns, 255) != wide_cell(v) {
+            if count_beside(edgeless, rows, columns, cells, c / columns, c % columns, 255) != wide_cell(v) {
                 return false;
             }
         }
@@ -208,6 +208,7 @@ fn number_then_zero(numbers: bool, zero: bool) -> Tested
 
 // The tests of a board call, which lends a picture of `picture` bytes.
 pub fn test_board(
+    edgeless: bool,
     rows: usize,
     columns: usize,
     row: usize,
@@ -215,7 +216,7 @@ pub fn test_board(
     cells: &[u8],
     picture: usize,
 ) -> Tested
-    ensures { λ r. ⌜ r ≡ boardTested rows columns row column (now (cells .entry)) picture ⌝ }
+    ensures { λ r. ⌜ r ≡ boardTested edgeless rows columns row column (now (cells .entry)) picture ⌝ }
 {
     if !size_ok(1, rows, columns) {
         return Tested::Refused(Refusal::Size);
@@ -232,7 +233,7 @@ pub fn test_board(
     if !start_ok(rows, columns, row, column) {
         return Tested::Refused(Refusal::Start);
     }
-    let numbers = numbers_ok(rows, columns, cells);
+    let numbers = numbers_ok(edgeless, rows, columns, cells);
     number_then_zero(numbers, zero_ok(row, column, cells))
 }
 

@@ -1,7 +1,7 @@
 -- Equations one after another in two arrays, eight slots and a remainder for each: where they are small and at most 1,024, they are read back as they are.
 -- The plain equations of a position on a board are so. Rests on the laws of slots. Assumes nothing.
 use mathlib.Core.Path.{_≡_, ap, _∙_}
-use mathlib.Core.Bool.{true, _&&_}
+use mathlib.Core.Bool.{Bool, true, _&&_}
 use mathlib.Core.List.{List, [], map, Memᴰ·of-map}
 use Prim.Native.Nat.{ℕ, _+_, _-_, _*_, _≤_, _<_}
 use native.Mathlib.Omega.{arith}
@@ -19,7 +19,6 @@ use Rattle.lists.proofs.Unions.{all-of, mem-has}
 use Rattle.grid.specs.Cells.{shows}
 use Rattle.grid.specs.Window.{neighbours, Board}
 use Rattle.grid.proofs.Neighbours.{neighbours-few}
-use Rattle.grid.proofs.Places.{some-column}
 use Rattle.refusals.proofs.Accepted.{few-cells}
 use Rattle.fitting.specs.Equations.{isClosed}
 use Rattle.blocks.specs.Blocks.{BlockEquation}
@@ -77,9 +76,9 @@ module _ (es : List BlockEquation) (small : all smallEquation es ≡ true) (few 
 
 -- ---- the equations of a position
 
-module _ (rows columns : ℕ) (p : List ℕ) (board : Board p rows columns) where
+module _ (edgeless : Bool) (rows columns : ℕ) (p : List ℕ) (board : Board p rows columns) where
   -- are small
-  pub plain-small : all smallEquation (plainEquations (neighbours rows columns) p) ≡ true
+  pub plain-small : all smallEquation (plainEquations (neighbours edgeless rows columns) p) ≡ true
   plain-small =
       all-of smallEquation (plainEquations near p)
       (λ e m. let (d, n, w) = Memᴰ·of-map (plainEquation near p) (sources near p) m in
@@ -87,18 +86,18 @@ module _ (rows columns : ℕ) (p : List ℕ) (board : Board p rows columns) wher
       rw (← w) (small d (omega (arith, s .on-board, board .whole)) (s .is-open)))
     where
       near : ℕ → List ℕ
-      near = neighbours rows columns
+      near = neighbours edgeless rows columns
 
-      small : (d : ℕ) → d < rows * columns → shows p d ≤ 8 → smallEquation (plainEquation (neighbours rows columns) p d) ≡ true
+      small : (d : ℕ) → d < rows * columns → shows p d ≤ 8 → smallEquation (plainEquation (neighbours edgeless rows columns) p d) ≡ true
       small d on o = rw (
-        le-leb (length (closedBeside (neighbours rows columns) p d)) 8
-            (keep-few (isClosed p) (neighbours rows columns d) (neighbours-few rows columns d on (some-column rows columns d on))),
-        closed-on board d,
-        lt-ltb ((shows p d + 8) - knownBeside (neighbours rows columns) p d) 256 (omega arith),
+        le-leb (length (closedBeside (neighbours edgeless rows columns) p d)) 8
+            (keep-few (isClosed p) (neighbours edgeless rows columns d) (neighbours-few edgeless rows columns d)),
+        closed-on edgeless board d,
+        lt-ltb ((shows p d + 8) - knownBeside (neighbours edgeless rows columns) p d) 256 (omega arith),
       )
 
   -- and at most as many as a board has cells
-  pub plain-few : length (plainEquations (neighbours rows columns) p) ≤ 1024
+  pub plain-few : length (plainEquations (neighbours edgeless rows columns) p) ≤ 1024
   plain-few =
-      let near = neighbours rows columns in
+      let near = neighbours edgeless rows columns in
       omega (arith, length-map (sources near p) (plainEquation near p), sources-few near p, board .whole, few-cells (board .sized))

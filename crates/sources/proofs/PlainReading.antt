@@ -1,6 +1,7 @@
 -- The equations of a position as the code reads them. The sources are listed, and the slots of each hold its closed neighbours; so what is stored of one
 -- source after another is the plain equations. Rests on the laws of a position that is read and of equations in arrays. Assumes nothing.
 use mathlib.Core.Path.{_≡_, sym, ap, _∙_}
+use mathlib.Core.Bool.{Bool}
 use mathlib.Core.List.{List, map, map-map}
 use Prim.Native.Nat.{ℕ, _*_}
 use native.Mathlib.Omega.{arith}
@@ -30,30 +31,30 @@ slotsBeside beside c = pad 8 65535 (slotCells beside c)
 pub length-beside : (beside : List ℕ) (c : ℕ) → length (slotsBeside beside c) ≡ 8
 length-beside beside c = length-pad 8 65535 (slotCells beside c) (slots-eight beside c)
 
-module _ {rows columns : ℕ} {p beside list : List ℕ} {len : ℕ} (board : Board p rows columns)
-    (read : Read (neighbours rows columns) p (rows * columns) beside list len) where
+module _ (edgeless : Bool) {rows columns : ℕ} {p beside list : List ℕ} {len : ℕ} (board : Board p rows columns)
+    (read : Read (neighbours edgeless rows columns) p (rows * columns) beside list len) where
   abbrev near : ℕ → List ℕ
-  near = neighbours rows columns
+  near = neighbours edgeless rows columns
 
   -- the slots of the sources are those of the equations
   slots-are : map (slotsBeside beside) (take len list) ≡ map slotsOf (plainEquations near p)
   slots-are =
-      ap (map (slotsBeside beside)) (sources-listed board read)
+      ap (map (slotsBeside beside)) (sources-listed edgeless board read)
       ∙ map-ext (slotsBeside beside) (λ d. slotsOf (plainEquation near p d)) (sources near p)
-      (λ c h. ap (pad 8 65535) (read-held board read c (all-has (sourceBelow near p (rows * columns)) (sources near p) (all-read board read) c h)))
+      (λ c h. ap (pad 8 65535) (read-held edgeless board read c (all-has (sourceBelow near p (rows * columns)) (sources near p) (all-read edgeless board read) c h)))
       ∙ sym (map-map slotsOf (plainEquation near p) (sources near p))
 
   -- and so are the remainders
   rests-are : map (restAt near p) (take len list) ≡ map (λ (e : BlockEquation). e .rest) (plainEquations near p)
   rests-are =
-      ap (map (restAt near p)) (sources-listed board read)
+      ap (map (restAt near p)) (sources-listed edgeless board read)
       ∙ sym (map-map (λ (e : BlockEquation). e .rest) (plainEquation near p) (sources near p))
 
   -- there is an equation for each
   counted : len ≡ length (plainEquations near p)
   counted =
       sym (length-take-le len list (omega (arith, read .few, read .long, few-cells (board .sized))))
-      ∙ ap length (sources-listed board read)
+      ∙ ap length (sources-listed edgeless board read)
       ∙ sym (length-map (sources near p) (plainEquation near p))
 
   -- what is stored is the struct of the equations
@@ -62,8 +63,8 @@ module _ {rows columns : ℕ} {p beside list : List ℕ} {len : ℕ} (board : Bo
       → record { slots = slots; rests = rests; len = len } ≡ equationArrays (plainEquations near p)
   unfolding equationArrays
   equations-stored slots rests s r =
-      let small = plain-small rows columns p board in
-      let few = plain-few rows columns p board in
+      let small = plain-small edgeless rows columns p board in
+      let few = plain-few edgeless rows columns p board in
       rw (
         s ∙ ap (λ (l : List (List ℕ)). sets (replicate 8192 65535) 0 (joined l)) slots-are ∙ slots-stored (plainEquations near p) small few,
         r ∙ ap (sets (replicate 1024 0) 0) rests-are ∙ rests-stored (plainEquations near p) small few,

@@ -18,7 +18,6 @@ use Rattle.lists.proofs.Unions.{meets-at}
 use Rattle.lists.proofs.All.{has-all}
 use Rattle.grid.specs.Window.{neighbours, Board}
 use Rattle.grid.proofs.Neighbours.{Touch, neighbours-touch}
-use Rattle.grid.proofs.Places.{some-column}
 use Rattle.refusals.proofs.Accepted.{few-cells}
 use Rattle.fitting.specs.Equations.{isClosed}
 use Rattle.blocks.specs.BlockSets.{slotCells}
@@ -41,8 +40,9 @@ two-more columns c d row column =
       suc-mul (d / columns) columns,
     )
 
-touch-near : (rows columns c d x : ℕ) → Touch rows columns c x → Touch rows columns d x → nearEnough columns c d ≡ true
-touch-near rows columns c d x a b =
+touch-near : (edgeless : Bool) (rows columns c d x : ℕ) → Touch edgeless rows columns c x → Touch edgeless rows columns d x → nearEnough edgeless columns c d ≡ true
+touch-near true rows columns c d x a b = refl
+touch-near false rows columns c d x a b =
     let r = a .near-rows in
     let s = b .near-rows in
     let i = a .near-columns in
@@ -54,10 +54,10 @@ touch-near rows columns c d x a b =
 
 -- ---- the slots of a position that is read
 
-module _ {rows columns : ℕ} {p slots list : List ℕ} {len : ℕ} (board : Board p rows columns)
-    (read : Read (neighbours rows columns) p (rows * columns) slots list len) where
+module _ (edgeless : Bool) {rows columns : ℕ} {p slots list : List ℕ} {len : ℕ} (board : Board p rows columns)
+    (read : Read (neighbours edgeless rows columns) p (rows * columns) slots list len) where
   abbrev near : ℕ → List ℕ
-  near = neighbours rows columns
+  near = neighbours edgeless rows columns
 
   -- a source of the board
   abbrev isRead : ℕ → Bool
@@ -84,18 +84,18 @@ module _ {rows columns : ℕ} {p slots list : List ℕ} {len : ℕ} (board : Boa
     where
       go : (slotCells slots c ≡ []) ⊎ (isRead c ≡ true) → all (λ d. ltb d 1024) (slotCells slots c) ≡ true
       go (inl e) = rw e
-      go (inr h) = rw (read-held c h) (closed-on board c)
+      go (inr h) = rw (read-held c h) (closed-on edgeless board c)
 
   -- a cell in the slots touches the cell whose slots they are
-  touches : (c x : ℕ) → has (slotCells slots c) x ≡ true → Touch rows columns c x
+  touches : (c x : ℕ) → has (slotCells slots c) x ≡ true → Touch edgeless rows columns c x
   touches c x e = go (held-or-none c)
     where
-      go : (slotCells slots c ≡ []) ⊎ (isRead c ≡ true) → Touch rows columns c x
+      go : (slotCells slots c ≡ []) ⊎ (isRead c ≡ true) → Touch edgeless rows columns c x
       go (inl none) = clash false (rw none at e) refl
       go (inr h) =
-          neighbours-touch rows columns c (some-column rows columns c (read-below c h)) x .0 (kept-has (isClosed p) (near c) x (rw (read-held c h) at e))
+          neighbours-touch edgeless rows columns c x (kept-has (isClosed p) (near c) x (rw (read-held c h) at e))
 
-  pub read-slots : Slots columns slots
+  pub read-slots : Slots edgeless columns slots
   read-slots =
       record {
         few-columns = board .sized .few-columns;
@@ -103,7 +103,7 @@ module _ {rows columns : ℕ} {p slots list : List ℕ} {len : ℕ} (board : Boa
         on-board = on-board;
         reach = λ c d h.
             let (x, a, b) = meets-at (slotCells slots c) (slotCells slots d) h in
-            touch-near rows columns c d x (touches c x a) (touches d x b);
+            touch-near edgeless rows columns c d x (touches c x a) (touches d x b);
       }
 
   pub read-meets : (c d : ℕ) → isRead c ≡ true → isRead d ≡ true → slotsMeet slots c d ≡ shares near p c d

@@ -19,10 +19,10 @@ use Rattle.sources.specs.Reading.{Read, Cells}
 use Rattle.sources.proofs.SourceLaws.{sourceBelow}
 use Rattle.sources.proofs.ReadSlots.{all-read}
 
-module _ {rows columns : ℕ} {p beside list : List ℕ} {len : ℕ} (board : Board p rows columns)
-    (read : Read (neighbours rows columns) p (rows * columns) beside list len) where
+module _ (edgeless : Bool) {rows columns : ℕ} {p beside list : List ℕ} {len : ℕ} (board : Board p rows columns)
+    (read : Read (neighbours edgeless rows columns) p (rows * columns) beside list len) where
   abbrev near : ℕ → List ℕ
-  near = neighbours rows columns
+  near = neighbours edgeless rows columns
 
   -- a source of the board
   abbrev isRead : ℕ → Bool
@@ -43,7 +43,7 @@ module _ {rows columns : ℕ} {p beside list : List ℕ} {len : ℕ} (board : Bo
   sources-listed = read .listed ∙ ap (λ (m : ℕ). keep (isSource near p) (range 0 m)) (sym (board .whole))
 
   pub all-listed : all isRead (take len list) ≡ true
-  all-listed = rw sources-listed (all-read board read)
+  all-listed = rw sources-listed (all-read edgeless board read)
 
   -- they are cells, in an array with a count
   pub listed-cells : Cells list len

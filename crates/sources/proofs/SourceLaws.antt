@@ -21,7 +21,7 @@ use Rattle.lists.proofs.Collected.{keep-few}
 use Rattle.grid.specs.Cells.{cellOf, shows}
 use Rattle.grid.specs.Window.{neighbours, listed, Board, On}
 use Rattle.grid.specs.declared.window.Neighbours.{Neighbours}
-use Rattle.grid.proofs.Neighbours.{neighbours-on, cell-on, cell-few}
+use Rattle.grid.proofs.Neighbours.{neighbours-on, neighbours-few, cell-on}
 use Rattle.refusals.proofs.Accepted.{few-cells}
 use Rattle.fitting.specs.Equations.{isClosed}
 use Rattle.blocks.specs.BlockSets.{slotCells}
@@ -103,9 +103,9 @@ module _ {near : ℕ → List ℕ} {p : List ℕ} {n : ℕ} {slots list : List �
 
 -- ---- on a board
 
-module _ {rows columns : ℕ} {p : List ℕ} (board : Board p rows columns) where
+module _ (edgeless : Bool) {rows columns : ℕ} {p : List ℕ} (board : Board p rows columns) where
   abbrev near : ℕ → List ℕ
-  near = neighbours rows columns
+  near = neighbours edgeless rows columns
 
   -- closed, by the list itself
   abbrev closedThere : ℕ → Bool
@@ -117,11 +117,11 @@ module _ {rows columns : ℕ} {p : List ℕ} (board : Board p rows columns) wher
     closed-on =
         all-keep (λ d. ltb d 1024) (isClosed p) (near c)
         (has-all (λ d. ltb d 1024) (near c)
-        (λ d h. lt-ltb d 1024 (omega (arith, neighbours-on rows columns c d h, few-cells (board .sized)))))
+        (λ d h. lt-ltb d 1024 (omega (arith, neighbours-on edgeless rows columns c d h, few-cells (board .sized)))))
 
     -- a neighbour shows what the list has at it
     neighbour-closed : (d : ℕ) → has (near c) d ≡ true → closedThere d ≡ isClosed p d
-    neighbour-closed d h = ap (λ (v : ℕ). eqb v 10) (getD-any p d 0 255 (omega (arith, neighbours-on rows columns c d h, board .whole)))
+    neighbour-closed d h = ap (λ (v : ℕ). eqb v 10) (getD-any p d 0 255 (omega (arith, neighbours-on edgeless rows columns c d h, board .whole)))
 
     closed-kept : keep closedThere (near c) ≡ closedBeside near p c
     closed-kept = keep-ext closedThere (isClosed p) (near c) neighbour-closed
@@ -151,7 +151,7 @@ module _ {rows columns : ℕ} {p : List ℕ} (board : Board p rows columns) wher
     -- the closed neighbours as the code lists them
     module _ {list : Neighbours} (told : list ≡ listed (keep closedThere (near cell))) where
       pub listed-few : list .len ≤ 8
-      listed-few = rw told (keep-few closedThere (near cell) (cell-few rows columns row column on))
+      listed-few = rw told (keep-few closedThere (near cell) (neighbours-few edgeless rows columns cell))
 
       listed-closed : cellsIn list ≡ closedBeside near p cell
       listed-closed = rw told (pad-take 8 0 (keep closedThere (near cell)) ∙ closed-kept cell)
@@ -160,5 +160,5 @@ module _ {rows columns : ℕ} {p : List ℕ} (board : Board p rows columns) wher
           → {slots′ : List ℕ} → slots′ ≡ sets slots (c * 8) (pad 8 65535 (cellsIn list)) → Read near p (cell + 1) slots′ (set sources len c) (len + 1)
       read-source read h put =
           let small = cell-on rows columns row column (board .sized) on in
-          let few = keep-few (isClosed p) (near cell) (cell-few rows columns row column on) in
+          let few = keep-few (isClosed p) (near cell) (neighbours-few edgeless rows columns cell) in
           rw (put, listed-closed, is) (read-push read h (omega (arith, small)) few (closed-on cell))

@@ -1,7 +1,7 @@
 -- Cited by no public contract. What the functions that read the sources tell, and what those that build blocks of them are told: the lists that their scratch
 -- arrays hold. Assumes nothing.
 use mathlib.Core.Path.{_≡_}
-use mathlib.Core.Bool.{Bool, true, cond, _&&_}
+use mathlib.Core.Bool.{Bool, true, cond, _&&_, _||_}
 use mathlib.Core.List.{List, []}
 use Prim.Native.Nat.{ℕ, _+_, _*_, _≤_, _<_}
 use lib.Dec.{leb, ltb}
@@ -26,16 +26,16 @@ pub record Read (near : ℕ → List ℕ) (p : List ℕ) (n : ℕ) (slots list :
 abbrev pub slotsMeet : List ℕ → ℕ → ℕ → Bool
 slotsMeet slots c d = meets (slotCells slots c) (slotCells slots d)
 
--- two cells are at most two rows and two columns apart, as far as their numbers tell
-abbrev pub nearEnough : ℕ → ℕ → ℕ → Bool
-nearEnough columns c d = leb d (c + (2 * columns + 2)) && leb c (d + (2 * columns + 2))
+-- two cells are at most two rows and two columns apart, as far as their numbers tell: without an edge these tell nothing
+abbrev pub nearEnough : Bool → ℕ → ℕ → ℕ → Bool
+nearEnough edgeless columns c d = edgeless || (leb d (c + (2 * columns + 2)) && leb c (d + (2 * columns + 2)))
 
 -- slots that hold only cells of the board, and meet only where their places are near enough
-pub record Slots (columns : ℕ) (slots : List ℕ) : Type 0 where
+pub record Slots (edgeless : Bool) (columns : ℕ) (slots : List ℕ) : Type 0 where
   pub few-columns : columns ≤ 32
   pub wide : length slots ≡ 8192
   pub on-board : (c : ℕ) → all (λ d. ltb d 1024) (slotCells slots c) ≡ true
-  pub reach : (c d : ℕ) → slotsMeet slots c d ≡ true → nearEnough columns c d ≡ true
+  pub reach : (c d : ℕ) → slotsMeet slots c d ≡ true → nearEnough edgeless columns c d ≡ true
 
 -- the first n of an array of 1024 are below 1024
 pub record Cells (a : List ℕ) (n : ℕ) : Type 0 where

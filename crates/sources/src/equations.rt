@@ -30,29 +30,29 @@ fn less_known(number: u8, known: u8) -> u8
 }
 
 // The remainder of a source's equation plus 8: its number less its neighbouring known mines.
-pub fn rest_of(rows: usize, columns: usize, position: &[u8], c: usize) -> u8
+pub fn rest_of(edgeless: bool, rows: usize, columns: usize, position: &[u8], c: usize) -> u8
     requires { ⌜ Board (now position) rows columns ⌝ }
     requires { ⌜ (c < rows * columns) × (shows (now position) c ≤ 8) ⌝ }
-    ensures { λ r. ⌜ r ≡ restAt (neighbours rows columns) (now (position .entry)) c ⌝ }
+    ensures { λ r. ⌜ r ≡ restAt (neighbours edgeless rows columns) (now (position .entry)) c ⌝ }
 {
-    let known = count_beside(rows, columns, position, c / columns, c % columns, 11);
+    let known = count_beside(edgeless, rows, columns, position, c / columns, c % columns, 11);
     less_known(position[c], known as u8)
 }
 
 // The equation of each source: its closed neighbours, and its number less its neighbouring known mines.
-pub fn read_equations(rows: usize, columns: usize, position: &[u8]) -> Equations
+pub fn read_equations(edgeless: bool, rows: usize, columns: usize, position: &[u8]) -> Equations
     requires { ⌜ Board (now position) rows columns ⌝ }
-    ensures { λ r. ⌜ r ≡ equationArrays (plainEquations (neighbours rows columns) (now (position .entry))) ⌝ }
+    ensures { λ r. ⌜ r ≡ equationArrays (plainEquations (neighbours edgeless rows columns) (now (position .entry))) ⌝ }
 {
     let mut beside = [65535u16; 8192];
     let mut sources = [0u16; 1024];
-    let len = read_sources(rows, columns, position, &mut beside, &mut sources);
+    let len = read_sources(edgeless, rows, columns, position, &mut beside, &mut sources);
     let mut slots = [65535u16; 8192];
     let mut rests = [0u8; 1024];
     for i in 0..len {
         let c = wide(sources[i]);
         put_slots(&mut slots, i, slots_at(&beside, c));
-        rests[i] = rest_of(rows, columns, position, c);
+        rests[i] = rest_of(edgeless, rows, columns, position, c);
     }
     Equations { slots, rests, len }
 }

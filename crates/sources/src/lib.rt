@@ -11,6 +11,7 @@ ghost use Rattle.sources.specs.Reading.{Read};
 
 // Row by row, the sources of the whole position. Returns how many there are.
 pub fn read_sources(
+    edgeless: bool,
     rows: usize,
     columns: usize,
     position: &[u8],
@@ -18,18 +19,19 @@ pub fn read_sources(
     sources: &mut [u16; 1024],
 ) -> usize
     requires { ⌜ Board (now position) rows columns ⌝ }
-    requires { ⌜ Read (neighbours rows columns) (now position) 0 (now beside) (now sources) 0 ⌝ }
-    ensures { λ r. ⌜ Read (neighbours rows columns) (now (position .entry)) (rows * columns) (now (beside .exit)) (now (sources .exit)) r ⌝ }
+    requires { ⌜ Read (neighbours edgeless rows columns) (now position) 0 (now beside) (now sources) 0 ⌝ }
+    ensures { λ r. ⌜ Read (neighbours edgeless rows columns) (now (position .entry)) (rows * columns) (now (beside .exit)) (now (sources .exit)) r ⌝ }
 {
     let mut len = 0;
     for row in 0..rows {
-        len = read_row(rows, columns, position, row, beside, sources, len);
+        len = read_row(edgeless, rows, columns, position, row, beside, sources, len);
     }
     len
 }
 
 // The sources of one row go to the end of the list.
 fn read_row(
+    edgeless: bool,
     rows: usize,
     columns: usize,
     position: &[u8],
@@ -40,18 +42,19 @@ fn read_row(
 ) -> usize
     requires { ⌜ Board (now position) rows columns ⌝ }
     requires { ⌜ row < rows ⌝ }
-    requires { ⌜ Read (neighbours rows columns) (now position) (row * columns) (now beside) (now sources) before ⌝ }
-    ensures { λ r. ⌜ Read (neighbours rows columns) (now (position .entry)) ((row + 1) * columns) (now (beside .exit)) (now (sources .exit)) r ⌝ }
+    requires { ⌜ Read (neighbours edgeless rows columns) (now position) (row * columns) (now beside) (now sources) before ⌝ }
+    ensures { λ r. ⌜ Read (neighbours edgeless rows columns) (now (position .entry)) ((row + 1) * columns) (now (beside .exit)) (now (sources .exit)) r ⌝ }
 {
     let mut len = before;
     for column in 0..columns {
-        len = read_cell(rows, columns, position, row, column, beside, sources, len);
+        len = read_cell(edgeless, rows, columns, position, row, column, beside, sources, len);
     }
     len
 }
 
 // A cell goes to the end of the list if it is a source.
 fn read_cell(
+    edgeless: bool,
     rows: usize,
     columns: usize,
     position: &[u8],
@@ -63,20 +66,20 @@ fn read_cell(
 ) -> usize
     requires { ⌜ Board (now position) rows columns ⌝ }
     requires { ⌜ On rows columns row column ⌝ }
-    requires { ⌜ Read (neighbours rows columns) (now position) (row * columns + column) (now beside) (now sources) len ⌝ }
-    ensures { λ r. ⌜ Read (neighbours rows columns) (now (position .entry)) (row * columns + column + 1) (now (beside .exit)) (now (sources .exit)) r ⌝ }
+    requires { ⌜ Read (neighbours edgeless rows columns) (now position) (row * columns + column) (now beside) (now sources) len ⌝ }
+    ensures { λ r. ⌜ Read (neighbours edgeless rows columns) (now (position .entry)) (row * columns + column + 1) (now (beside .exit)) (now (sources .exit)) r ⌝ }
 {
     let c = cell_number(rows, columns, row, column);
     if 8 < position[c] {
         return len;
     }
-    if !shown_beside(rows, columns, position, row, column, 10) {
+    if !shown_beside(edgeless, rows, columns, position, row, column, 10) {
         return len;
     }
     put_slots(
         beside,
         c,
-        neighbours_showing(rows, columns, position, row, column, 10),
+        neighbours_showing(edgeless, rows, columns, position, row, column, 10),
     );
     sources[len] = c as u16;
     len + 1

@@ -13,12 +13,12 @@ use Rattle.growth.proofs.grow_block.Statement.{statement}
 use Rattle.growth.proofs.grow_block.Tie as tie
 
 abbrev Inv-loop : tie.InvT-loop
-Inv-loop columns beside left₀ n found₀ sizes₀ h₀ left found sizes h =
+Inv-loop edgeless columns beside left₀ n found₀ sizes₀ h₀ left found sizes h =
     (1 ≤ sizes .left) × (sizes .left + sizes .found ≡ n + 1) × Cells left (sizes .left) × Cells found (sizes .found)
     × Growing (slotsMeet beside) (grown (slotsMeet beside) (getD left₀ 0 0) (drop 1 (take n left₀))) (getD left₀ 0 0) (n - h) h left (sizes .left) found (sizes .found)
 
 abbrev μ-loop : tie.MeasureT-loop
-μ-loop columns beside left₀ n found₀ sizes₀ h₀ left found sizes h = n - h
+μ-loop edgeless columns beside left₀ n found₀ sizes₀ h₀ left found sizes h = n - h
 
 element-copy-out-found : tie.Need-element-copy-out-found Inv-loop μ-loop
 element-copy-out-found c = search needs

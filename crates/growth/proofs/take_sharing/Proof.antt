@@ -15,11 +15,11 @@ use Rattle.growth.proofs.take_sharing.Statement.{statement}
 use Rattle.growth.proofs.take_sharing.Tie as tie
 
 abbrev Inv-loop : tie.InvT-loop
-Inv-loop columns beside c left₀ found₀ marks n₀ len₀ t₀ left found n len t =
+Inv-loop edgeless columns beside c left₀ found₀ marks n₀ len₀ t₀ left found n len t =
     (1 ≤ t) × (t ≤ n) × (n + len ≡ n₀ + len₀) × Scanned (slotsMeet beside c) (take n₀ left₀) (take len₀ found₀) t left n found len
 
 abbrev μ-loop : tie.MeasureT-loop
-μ-loop columns beside c left₀ found₀ marks n₀ len₀ t₀ left found n len t = t
+μ-loop edgeless columns beside c left₀ found₀ marks n₀ len₀ t₀ left found n len t = t
 
 slots-at-requires : tie.Need-slots-at-requires Inv-loop μ-loop
 slots-at-requires c κs = (c .pre .0 .wide, c .pre .1 .0)

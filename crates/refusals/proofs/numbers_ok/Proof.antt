@@ -18,10 +18,10 @@ use Rattle.refusals.proofs.numbers_ok.Statement.{statement}
 use Rattle.refusals.proofs.numbers_ok.Tie as tie
 
 abbrev Inv-loop : tie.InvT-loop
-Inv-loop rows columns cells n c₀ c = (c ≤ n) × (every c (numberOk (neighbours rows columns) cells) ≡ true)
+Inv-loop edgeless rows columns cells n c₀ c = (c ≤ n) × (every c (numberOk (neighbours edgeless rows columns) cells) ≡ true)
 
 abbrev μ-loop : tie.MeasureT-loop
-μ-loop rows columns cells n c₀ c = n - c
+μ-loop edgeless rows columns cells n c₀ c = n - c
 
 mul-n : tie.Need-mul-n Inv-loop μ-loop
 mul-n c = omega (arith, few-cells (c .before .pre .sized))
@@ -51,7 +51,7 @@ unfolding numbersOk
 returns c =
     let loop = c .before .before .before .before .before .before in
     let start = loop .before .before in
-    let near = neighbours (start .args .rows) (start .args .columns) in
+    let near = neighbours (start .args .edgeless) (start .args .rows) (start .args .columns) in
     let cells = start .args .cells .now in
     let wrong = number-fails near cells (loop .loop .c) _ (c .before .before .count-beside .ensures) (c .before .wide-cell .ensures) (c .before .before .before .if1 .taken) (c .if2 .taken) in
     sym (every-fails (length cells) (numberOk near cells) (loop .loop .c) (rw (start .pre .whole) (c .before .before .before .before .before .loop-test .taken)) wrong)
@@ -66,7 +66,7 @@ loop-again : tie.Need-loop-again Inv-loop μ-loop
 loop-again c =
     let loop = c .before .before .before in
     let start = loop .before .before in
-    let near = neighbours (start .args .rows) (start .args .columns) in
+    let near = neighbours (start .args .edgeless) (start .args .rows) (start .args .columns) in
     let cells = start .args .cells .now in
     let passes =
     ⊎-elim

@@ -16,7 +16,7 @@ shared-slice-read-if1 c = search needs
 returns : tie.Need-returns
 returns c =
     let s = c .before .before .before .before in
-    read-pass (s .pre .1 .1) (not-open (s .pre .0) (s .pre .1 .0) (c .before .before .cell-number .ensures .0) (c .if1 .taken))
+    read-pass (s .pre .1 .1) (not-open _ (s .pre .0) (s .pre .1 .0) (c .before .before .cell-number .ensures .0) (c .if1 .taken))
 
 shown-beside-requires : tie.Need-shown-beside-requires
 shown-beside-requires c κs = search needs
@@ -25,7 +25,7 @@ returns-2 : tie.Need-returns-2
 returns-2 c =
     let s = c .before .before .before .before .before .before in
     let is = c .before .before .before .before .cell-number .ensures .0 in
-    read-pass (s .pre .1 .1) (none-closed (s .pre .0) (s .pre .1 .0) is (c .before .shown-beside .ensures) (not-true _ (c .if2 .taken)))
+    read-pass (s .pre .1 .1) (none-closed _ (s .pre .0) (s .pre .1 .0) is (c .before .shown-beside .ensures) (not-true _ (c .if2 .taken)))
 
 neighbours-showing-requires : tie.Need-neighbours-showing-requires
 neighbours-showing-requires c κs = search needs
@@ -34,7 +34,7 @@ put-slots-requires : tie.Need-put-slots-requires
 put-slots-requires c κs =
     let s = c .before .before .before .before .before .before .before .before in
     let is = c .before .before .before .before .before .before .cell-number .ensures .0 in
-    (s .pre .1 .1 .wide, omega arith, listed-few (s .pre .0) (s .pre .1 .0) is (c .neighbours-showing .ensures))
+    (s .pre .1 .1 .wide, omega arith, listed-few _ (s .pre .0) (s .pre .1 .0) is (c .neighbours-showing .ensures))
 
 cast-sources : tie.Need-cast-sources
 cast-sources c = search needs
@@ -54,8 +54,8 @@ returns-3 c =
     let is = c .before .before .before .before .before .before .before .cell-number .ensures .0 in
     let shown = c .before .before .before .before .before .if1 .left in
     let beside = not-false _ (c .before .before .before .if2 .left) in
-    let source = is-source (s .pre .0) (s .pre .1 .0) is (c .before .before .before .before .shown-beside .ensures) shown beside in
-    read-source (s .pre .0) (s .pre .1 .0) is (c .before .neighbours-showing .ensures) (s .pre .1 .1) source (c .put-slots .ensures)
+    let source = is-source _ (s .pre .0) (s .pre .1 .0) is (c .before .before .before .before .shown-beside .ensures) shown beside in
+    read-source _ (s .pre .0) (s .pre .1 .0) is (c .before .neighbours-showing .ensures) (s .pre .1 .1) source (c .put-slots .ensures)
 
 pub read-cell-spec : {M : Type 1} → statement M
 read-cell-spec =

@@ -12,11 +12,11 @@ use Rattle.sources.proofs.read_row.Statement.{statement}
 use Rattle.sources.proofs.read_row.Tie as tie
 
 abbrev Inv-loop : tie.InvT-loop
-Inv-loop rows columns position row beside₀ sources₀ before len₀ column₀ beside sources len column =
-    (column ≤ columns) × Read (neighbours rows columns) position (row * columns + column) beside sources len
+Inv-loop edgeless rows columns position row beside₀ sources₀ before len₀ column₀ beside sources len column =
+    (column ≤ columns) × Read (neighbours edgeless rows columns) position (row * columns + column) beside sources len
 
 abbrev μ-loop : tie.MeasureT-loop
-μ-loop rows columns position row beside₀ sources₀ before len₀ column₀ beside sources len column = columns - column
+μ-loop edgeless rows columns position row beside₀ sources₀ before len₀ column₀ beside sources len column = columns - column
 
 loop-holds : tie.Need-loop-holds Inv-loop μ-loop
 loop-holds c =

@@ -11,11 +11,11 @@ use Rattle.sources.proofs.read_sources.Statement.{statement}
 use Rattle.sources.proofs.read_sources.Tie as tie
 
 abbrev Inv-loop : tie.InvT-loop
-Inv-loop rows columns position beside₀ sources₀ len₀ row₀ beside sources len row =
-    (row ≤ rows) × Read (neighbours rows columns) position (row * columns) beside sources len
+Inv-loop edgeless rows columns position beside₀ sources₀ len₀ row₀ beside sources len row =
+    (row ≤ rows) × Read (neighbours edgeless rows columns) position (row * columns) beside sources len
 
 abbrev μ-loop : tie.MeasureT-loop
-μ-loop rows columns position beside₀ sources₀ len₀ row₀ beside sources len row = rows - row
+μ-loop edgeless rows columns position beside₀ sources₀ len₀ row₀ beside sources len row = rows - row
 
 loop-holds : tie.Need-loop-holds Inv-loop μ-loop
 loop-holds c = (search needs, rw zero-mul (c .before .pre .1))

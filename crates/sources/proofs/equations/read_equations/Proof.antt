@@ -25,15 +25,15 @@ use Rattle.sources.proofs.equations.read_equations.Statement.{statement
 use Rattle.sources.proofs.equations.read_equations.Tie as tie
 
 abbrev Inv-loop : tie.InvT-loop
-Inv-loop rows columns position beside sources len slots₀ rests₀ i₀ slots rests i =
+Inv-loop edgeless rows columns position beside sources len slots₀ rests₀ i₀ slots rests i =
     (i ≤ len)
-    × Written (slotsBeside beside) (restAt (neighbours rows columns) position)
+    × Written (slotsBeside beside) (restAt (neighbours edgeless rows columns) position)
     (sets (replicate 8192 65535) (0 * 8) (joined (map (slotsBeside beside) (take len sources))))
-    (sets (replicate 1024 0) 0 (map (restAt (neighbours rows columns) position) (take len sources)))
+    (sets (replicate 1024 0) 0 (map (restAt (neighbours edgeless rows columns) position) (take len sources)))
     (drop i (take len sources)) i slots rests
 
 abbrev μ-loop : tie.MeasureT-loop
-μ-loop rows columns position beside sources len slots₀ rests₀ i₀ slots rests i = len - i
+μ-loop edgeless rows columns position beside sources len slots₀ rests₀ i₀ slots rests i = len - i
 
 -- ---- what is known where: the function's start, and once the sources are read
 
@@ -41,8 +41,8 @@ abbrev start : tie.After-read-sources Inv-loop μ-loop → tie.Start Inv-loop μ
 start c = c .before .before .before .before
 
 -- the sources listed are cells
-listed : (c : tie.After-read-sources Inv-loop μ-loop) → Cells (c .read-sources .last .1 .1 .1 .1 .0) (c .read-sources .result)
-listed c = listed-cells (start c .pre) (c .read-sources .ensures)
+listed : (c : tie.After-read-sources Inv-loop μ-loop) → Cells (c .read-sources .last .1 .1 .1 .1 .1 .0) (c .read-sources .result)
+listed c = listed-cells _ (start c .pre) (c .read-sources .ensures)
 
 -- ---- the needs
 
@@ -69,7 +69,7 @@ open-cell c =
     let s = start read in
     rw (c .wide .ensures)
     (found-open (listed read) (c .before .before .loop .i) (c .before .loop-test .taken) (s .args .rows * s .args .columns) (s .args .position .now)
-    (all-open (s .pre) (read .read-sources .ensures) (take (read .read-sources .result) (read .read-sources .last .1 .1 .1 .1 .0)) (all-listed (s .pre) (read .read-sources .ensures))))
+    (all-open _ (s .pre) (read .read-sources .ensures) (take (read .read-sources .result) (read .read-sources .last .1 .1 .1 .1 .1 .0)) (all-listed _ (s .pre) (read .read-sources .ensures))))
 
 slots-at-requires : tie.Need-slots-at-requires Inv-loop μ-loop
 slots-at-requires c κs =
@@ -83,7 +83,7 @@ put-slots-requires c κs =
     let l = w .before .before .loop in
     let read = w .before .before .before in
     let few = listed read .few in
-    (l .inv .1 .slots-long, omega arith, rw (c .slots-at .ensures) (slots-eight (read .read-sources .last .1 .1 .1 .0) (w .wide .result)))
+    (l .inv .1 .slots-long, omega arith, rw (c .slots-at .ensures) (slots-eight (read .read-sources .last .1 .1 .1 .1 .0) (w .wide .result)))
 
 rest-of-requires : tie.Need-rest-of-requires Inv-loop μ-loop
 rest-of-requires c κs = let w = c .before .before .before .before in (start (w .before .before .before) .pre, open-cell w)
@@ -103,10 +103,10 @@ loop-again c =
     let l = w .before .before .loop in
     let read = w .before .before .before in
     let next = found-more (listed read) (l .i) (w .before .loop-test .taken) in
-    let held = cells-listed (slotCells (read .read-sources .last .1 .1 .1 .0) (w .wide .result)) (c .before .before .slots-at .ensures) in (
+    let held = cells-listed (slotCells (read .read-sources .last .1 .1 .1 .1 .0) (w .wide .result)) (c .before .before .slots-at .ensures) in (
       omega arith,
       rw (c .before .put-slots .ensures, held, c .rest-of .ensures)
-          (written-more _ _ (rw (next, ← w .wide .ensures) at (l .inv .1)) (length-beside (read .read-sources .last .1 .1 .1 .0) (w .wide .result))),
+          (written-more _ _ (rw (next, ← w .wide .ensures) at (l .inv .1)) (length-beside (read .read-sources .last .1 .1 .1 .1 .0) (w .wide .result))),
     )
 
 returns : tie.Need-returns Inv-loop μ-loop
@@ -114,7 +114,7 @@ returns c =
     let l = c .before .loop in
     let read = c .before .before in
     let end = rw (counted-none _ (read .read-sources .result) (l .i) (c .loop-test .left)) at (l .inv .1) in
-    equations-stored (start read .pre) (read .read-sources .ensures) (l .slots) (l .rests) (end .slots-left) (end .rests-left)
+    equations-stored _ (start read .pre) (read .read-sources .ensures) (l .slots) (l .rests) (end .slots-left) (end .rests-left)
 
 pub read-equations-spec : {M : Type 1} → statement M
 read-equations-spec =
