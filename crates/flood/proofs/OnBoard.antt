@@ -1,7 +1,7 @@
 -- The flood on a board with rows and columns: the code starts with room for every cell, each cell has at most eight neighbours, and the closed neighbours
 -- of a cell, as the code holds them, are on the board. Assumes nothing.
 use mathlib.Core.Path.{_≡_, refl, sym, _∙_}
-use mathlib.Core.Bool.{true}
+use mathlib.Core.Bool.{Bool, true}
 use mathlib.Core.List.{List}
 use Prim.Native.Nat.{ℕ, _+_, _*_, _/_, _%_, _≤_, _<_}
 use native.Mathlib.Omega.{arith}
@@ -18,16 +18,15 @@ use Rattle.grid.specs.Cells.{cellOf}
 use Rattle.grid.specs.declared.window.Neighbours.{Neighbours}
 use Rattle.grid.specs.Window.{neighbours, listed, Board}
 use Rattle.grid.proofs.Neighbours.{neighbours-on, neighbours-few}
-use Rattle.grid.proofs.Places.{some-column}
 use Rattle.fitting.specs.Boards.{Accepted}
 use Rattle.flood.specs.Stack.{Room}
 use Rattle.flood.proofs.SoFar.{not-ten}
 
-module _ (rows columns : ℕ) (b : List ℕ) (board : Board b rows columns) where
+module _ (edgeless : Bool) (rows columns : ℕ) (b : List ℕ) (board : Board b rows columns) where
   -- nothing is on the stack yet
-  pub room-first : Accepted (neighbours rows columns) b → (p : List ℕ) → Board p rows columns → Room b p (replicate 1024 0) 0
+  pub room-first : Accepted (neighbours edgeless rows columns) b → (p : List ℕ) → Board p rows columns → Room b p (replicate 1024 0) 0
   room-first ok p position = record {
-    numbers = not-ten (neighbours rows columns) b ok;
+    numbers = not-ten (neighbours edgeless rows columns) b ok;
     whole = position .whole ∙ sym (board .whole);
     long = length-replicate {A = ℕ} 1024 0;
     room = omega (
@@ -40,27 +39,23 @@ module _ (rows columns : ℕ) (b : List ℕ) (board : Board b rows columns) wher
     on-board = refl;
   }
 
-  -- no cell has more than eight neighbours
-  pub near-few : (c : ℕ) → c < length b → length (neighbours rows columns c) ≤ 8
-  near-few c l = let on : c < rows * columns = omega (arith, board .whole) in neighbours-few rows columns c on (some-column rows columns c on)
-
   -- the closed neighbours of c, as the code holds them
   module _ (c : ℕ) (l : c < length b) (q : List ℕ) (list : Neighbours)
-      (is : list ≡ listed (keep (λ d. eqb (cellOf q d) 10) (neighbours rows columns (c / columns * columns + c % columns)))) where
+      (is : list ≡ listed (keep (λ d. eqb (cellOf q d) 10) (neighbours edgeless rows columns (c / columns * columns + c % columns)))) where
     abbrev beside : List ℕ
-    beside = keep (λ d. eqb (cellOf q d) 10) (neighbours rows columns c)
+    beside = keep (λ d. eqb (cellOf q d) 10) (neighbours edgeless rows columns c)
 
     same : list ≡ listed beside
     same = rw (div-add-mod' c columns) at is
 
-    pub beside-cells : take (list .len) (list .cells) ≡ keep (λ d. eqb (cellOf q d) 10) (neighbours rows columns c)
+    pub beside-cells : take (list .len) (list .cells) ≡ keep (λ d. eqb (cellOf q d) 10) (neighbours edgeless rows columns c)
     beside-cells = rw same (pad-take 8 0 beside)
 
     pub beside-few : list .len ≤ 8
-    beside-few = rw same (keep-few (λ d. eqb (cellOf q d) 10) (neighbours rows columns c) (near-few c l))
+    beside-few = rw same (keep-few (λ d. eqb (cellOf q d) 10) (neighbours edgeless rows columns c) (neighbours-few edgeless rows columns c))
 
     pub beside-on : all (λ d. ltb d (length b)) (take (list .len) (list .cells)) ≡ true
     beside-on =
         rw (beside-cells, board .whole)
-        (all-keep (λ d. ltb d (rows * columns)) (λ d. eqb (cellOf q d) 10) (neighbours rows columns c)
-        (has-all (λ d. ltb d (rows * columns)) (neighbours rows columns c) (λ d h. lt-ltb d (rows * columns) (neighbours-on rows columns c d h))))
+        (all-keep (λ d. ltb d (rows * columns)) (λ d. eqb (cellOf q d) 10) (neighbours edgeless rows columns c)
+        (has-all (λ d. ltb d (rows * columns)) (neighbours edgeless rows columns c) (λ d h. lt-ltb d (rows * columns) (neighbours-on edgeless rows columns c d h))))

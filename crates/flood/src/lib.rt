@@ -82,6 +82,7 @@ fn open_first(
 
 // refresh_board, from the first `count` cells of a list.
 pub fn refresh_board(
+    edgeless: bool,
     rows: usize,
     columns: usize,
     board: &[u8],
@@ -90,9 +91,9 @@ pub fn refresh_board(
     count: usize,
 )
     requires { ⌜ Board (now board) rows columns × Board (now position) rows columns ⌝ }
-    requires { ⌜ Accepted (neighbours rows columns) (now board) ⌝ }
+    requires { ⌜ Accepted (neighbours edgeless rows columns) (now board) ⌝ }
     requires { ⌜ (count ≤ 1024) × (length (now list) ≡ 1024) × (all (λ c. ltb c (rows * columns)) (take count (now list)) ≡ true) ⌝ }
-    ensures { λ _. ⌜ now (position .exit) ≡ openCells (neighbours rows columns) (now (board .entry)) (now (position .entry)) (take count (now (list .entry))) ⌝ }
+    ensures { λ _. ⌜ now (position .exit) ≡ openCells (neighbours edgeless rows columns) (now (board .entry)) (now (position .entry)) (take count (now (list .entry))) ⌝ }
 {
     let mut stack = [0u16; 1024];
     let mut n = open_first(board, position, list, count, &mut stack);
@@ -100,7 +101,7 @@ pub fn refresh_board(
         n -= 1;
         let c = wide(stack[n]);
         if board[c] == 0 {
-            let near = neighbours_showing(rows, columns, position, c / columns, c % columns, 10);
+            let near = neighbours_showing(edgeless, rows, columns, position, c / columns, c % columns, 10);
             n = open_list(board, position, near, &mut stack, n);
         }
     }

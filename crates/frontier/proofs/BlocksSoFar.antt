@@ -19,7 +19,6 @@ use Rattle.lists.proofs.Counted.{counted-more, counted-none}
 use Rattle.grid.specs.Cells.{shows}
 use Rattle.grid.specs.Window.{neighbours, Board}
 use Rattle.grid.proofs.Neighbours.{neighbours-nodup, neighbours-few}
-use Rattle.grid.proofs.Places.{some-column}
 use Rattle.refusals.proofs.Accepted.{few-cells}
 use Rattle.blocks.specs.Blocks.{BlockEquation, Block}
 use Rattle.blocks.specs.declared.BlockSet.{BlockSet}
@@ -43,18 +42,18 @@ use Rattle.frontier.proofs.BlockLaws.{block-equations}
 use Rattle.frontier.proofs.WrittenBlock.{cells-joined, cells-end, cells-written, slots-written, rests-written}
 
 -- the first n of `left` are the sources left, and the struct s holds the blocks done, k cells and e equations
-pub record BlocksSoFar (rows columns : ℕ) (p beside left : List ℕ) (n : ℕ) (places : List ℕ) (s : BlockSet) (k e : ℕ) : Type 0 where
+pub record BlocksSoFar (edgeless : Bool) (rows columns : ℕ) (p beside left : List ℕ) (n : ℕ) (places : List ℕ) (s : BlockSet) (k e : ℕ) : Type 0 where
   pub done : List Block
   pub held : s ≡ blockSet done
   pub cells-counted : k ≡ length (allCells done)
   pub equations-counted : e ≡ length (allEquations done)
   pub placed : Placed k k places (s .cells)
   pub left-cells : Cells left n
-  pub left-sources : all (sourceBelow (neighbours rows columns) p (rows * columns)) (take n left) ≡ true
+  pub left-sources : all (sourceBelow (neighbours edgeless rows columns) p (rows * columns)) (take n left) ≡ true
   pub bound : ℕ
   pub enough : n ≤ bound
-  pub whole : done ++ map (blockOf (neighbours rows columns) p) (blockSources (slotsMeet beside) bound (take n left))
-      ≡ frontier (neighbours rows columns) p
+  pub whole : done ++ map (blockOf (neighbours edgeless rows columns) p) (blockSources (slotsMeet beside) bound (take n left))
+      ≡ frontier (neighbours edgeless rows columns) p
 
 -- there is room for the block of the m sources found, and they are open cells of the board
 pub record NextFits (rows columns : ℕ) (p beside found : List ℕ) (m : ℕ) (slots rests : List ℕ) (k e blocks : ℕ) : Type 0 where
@@ -108,10 +107,10 @@ blocks-next share (suc bound) c l h =
     let less : bound ≡ suc bound - 1 = omega arith in
     ap (λ (k : ℕ). grown share c l .found ∷ blockSources share k (rotated (grown share c l .left))) less
 
-module _ {rows columns : ℕ} {p beside list : List ℕ} {len : ℕ} (board : Board p rows columns)
-    (read : Read (neighbours rows columns) p (rows * columns) beside list len) where
+module _ (edgeless : Bool) {rows columns : ℕ} {p beside list : List ℕ} {len : ℕ} (board : Board p rows columns)
+    (read : Read (neighbours edgeless rows columns) p (rows * columns) beside list len) where
   abbrev near : ℕ → List ℕ
-  near = neighbours rows columns
+  near = neighbours edgeless rows columns
 
   -- a source of the board
   abbrev isRead : ℕ → Bool
@@ -120,17 +119,17 @@ module _ {rows columns : ℕ} {p beside list : List ℕ} {len : ℕ} (board : Bo
   -- the frontier fits into the struct
   fits : Small (frontier near p)
   fits =
-      frontier-small near p (neighbours-nodup rows columns)
-      (λ c h. let on : c < rows * columns = omega (arith, board .whole) in neighbours-few rows columns c on (some-column rows columns c on))
+      frontier-small near p (neighbours-nodup edgeless rows columns)
+      (λ c _. neighbours-few edgeless rows columns c)
       (omega (arith, board .whole, few-cells (board .sized)))
 
   -- ---- no block is done
 
   -- the slots give the sources of the blocks
   read-block-sources : (k : ℕ) → blockSources (slotsMeet beside) k (sources near p) ≡ blockSources (shares near p) k (sources near p)
-  read-block-sources k = block-sources-ext isRead (slotsMeet beside) (shares near p) (read-meets board read) k (sources near p) (all-read board read)
+  read-block-sources k = block-sources-ext isRead (slotsMeet beside) (shares near p) (read-meets edgeless board read) k (sources near p) (all-read edgeless board read)
 
-  pub none-so-far : BlocksSoFar rows columns p beside list len (replicate 1024 0)
+  pub none-so-far : BlocksSoFar edgeless rows columns p beside list len (replicate 1024 0)
       record {
         cells = replicate 1024 0;
         «cell_ends» = replicate 1024 0;
@@ -147,16 +146,16 @@ module _ {rows columns : ℕ} {p beside list : List ℕ} {len : ℕ} (board : Bo
     cells-counted = refl;
     equations-counted = refl;
     placed = placed-nothing;
-    left-cells = listed-cells board read;
-    left-sources = all-listed board read;
+    left-cells = listed-cells edgeless board read;
+    left-sources = all-listed edgeless board read;
     bound = length p;
     enough = omega (arith, read .few, board .whole);
-    whole = rw (sources-listed board read) (ap (map (blockOf near p)) (read-block-sources (length p)));
+    whole = rw (sources-listed edgeless board read) (ap (map (blockOf near p)) (read-block-sources (length p)));
   }
 
   -- ---- some blocks are done
 
-  module _ {left : List ℕ} {n : ℕ} {places : List ℕ} {s : BlockSet} {k e : ℕ} (b : BlocksSoFar rows columns p beside left n places s k e) where
+  module _ {left : List ℕ} {n : ℕ} {places : List ℕ} {s : BlockSet} {k e : ℕ} (b : BlocksSoFar edgeless rows columns p beside left n places s k e) where
     -- no source is left: all are
     pub all-so-far : n ≤ 0 → s ≡ blockSet (frontier near p)
     all-so-far h =
@@ -191,7 +190,7 @@ module _ {rows columns : ℕ} {p beside list : List ℕ} {len : ℕ} (board : Bo
         part-sources = rw found-is (grown-found (slotsMeet beside) own others isRead all-sources)
 
         part-held : (c : ℕ) → has part c ≡ true → slotCells beside c ≡ closedBeside near p c
-        part-held c h = read-held board read c (all-has isRead part part-sources c h)
+        part-held c h = read-held edgeless board read c (all-has isRead part part-sources c h)
 
         length-part : length part ≡ m
         length-part = length-take-le m found (omega (arith, found-cells .long, found-cells .few))
@@ -243,7 +242,7 @@ module _ {rows columns : ℕ} {p beside list : List ℕ} {len : ℕ} (board : Bo
           cells-room = rw cells-same (omega (arith, room .cells, b .cells-counted));
           equations-room = omega (arith, room .equations, b .equations-counted, length-equations);
           block-room = rw (b .held) (room .block);
-          are-open = all-open board read part part-sources;
+          are-open = all-open edgeless board read part part-sources;
         }
 
         -- ---- it is written
@@ -268,12 +267,12 @@ module _ {rows columns : ℕ} {p beside list : List ℕ} {len : ℕ} (board : Bo
           slots-now : slots′ ≡ sets (s .slots) (length (allEquations (b .done)) * 8) (joined (map slotsOf (next .equations)))
           slots-now =
               slots-is
-              ∙ rw (← b .equations-counted, slots-written near p beside part part-held (neighbours-nodup rows columns) placed (added ∙ cells-same))
+              ∙ rw (← b .equations-counted, slots-written near p beside part part-held (neighbours-nodup edgeless rows columns) placed (added ∙ cells-same))
 
           rests-now : rests′ ≡ sets (s .rests) (length (allEquations (b .done))) (map (λ (x : BlockEquation). x .rest) (next .equations))
           rests-now = rests-is ∙ rw (← b .equations-counted, rests-written near p beside part part-held)
 
-          pub one-more : BlocksSoFar rows columns p beside left″ n′ places′
+          pub one-more : BlocksSoFar edgeless rows columns p beside left″ n′ places′
               record {
                 cells = cells′;
                 «cell_ends» = set (s .«cell_ends») (s .blocks) k′;

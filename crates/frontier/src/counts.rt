@@ -12,12 +12,12 @@ ghost use Rattle.grid.specs.Window.{neighbours, Board, On};
 ghost use Rattle.frontier.specs.Frontier.{insideCells, knownMines};
 
 // Does the cell touch no open one?
-fn touches_no_open(rows: usize, columns: usize, position: &[u8], row: usize, column: usize) -> bool
+fn touches_no_open(edgeless: bool, rows: usize, columns: usize, position: &[u8], row: usize, column: usize) -> bool
     requires { ⌜ Board (now position) rows columns ⌝ }
     requires { ⌜ On rows columns row column ⌝ }
-    ensures { λ r. ⌜ r ≡ not (any (λ d. leb (shows (now (position .entry)) d) 8) (neighbours rows columns (row * columns + column))) ⌝ }
+    ensures { λ r. ⌜ r ≡ not (any (λ d. leb (shows (now (position .entry)) d) 8) (neighbours edgeless rows columns (row * columns + column))) ⌝ }
 {
-    let near = neighbours_of(rows, columns, row, column);
+    let near = neighbours_of(edgeless, rows, columns, row, column);
     let cells = near.cells;
     let len = near.len;
     for t in 0..len {
@@ -30,14 +30,14 @@ fn touches_no_open(rows: usize, columns: usize, position: &[u8], row: usize, col
 }
 
 // inside_cell.
-pub fn inside_cells(rows: usize, columns: usize, position: &[u8]) -> usize
+pub fn inside_cells(edgeless: bool, rows: usize, columns: usize, position: &[u8]) -> usize
     requires { ⌜ Board (now position) rows columns ⌝ }
-    ensures { λ r. ⌜ r ≡ insideCells (neighbours rows columns) (now (position .entry)) ⌝ }
+    ensures { λ r. ⌜ r ≡ insideCells (neighbours edgeless rows columns) (now (position .entry)) ⌝ }
 {
     let mut count = 0;
     for c in 0..position.len() {
         if position[c] == 10 {
-            if touches_no_open(rows, columns, position, c / columns, c % columns) {
+            if touches_no_open(edgeless, rows, columns, position, c / columns, c % columns) {
                 count += 1;
             }
         }

@@ -27,15 +27,15 @@ pub struct FrontierAnswer {
 }
 
 // The frontier of a position; no blocks where the position is refused.
-pub fn refresh_matrixs(rows: usize, columns: usize, position: &[u8]) -> FrontierAnswer
-    ensures { λ r. ⌜ r ≡ refreshMatrixs rows columns (now (position .entry)) ⌝ }
+pub fn refresh_matrixs(edgeless: bool, rows: usize, columns: usize, position: &[u8]) -> FrontierAnswer
+    ensures { λ r. ⌜ r ≡ refreshMatrixs edgeless rows columns (now (position .entry)) ⌝ }
 {
     let tested = test_position(rows, columns, position);
     match tested {
         Tested::Accepted => FrontierAnswer {
             tested,
-            blocks: read_blocks(rows, columns, position),
-            inside_cell: counts::inside_cells(rows, columns, position),
+            blocks: read_blocks(edgeless, rows, columns, position),
+            inside_cell: counts::inside_cells(edgeless, rows, columns, position),
             is_minenum: counts::known_mines(position),
         },
         Tested::Refused(_) => FrontierAnswer {
@@ -48,13 +48,13 @@ pub fn refresh_matrixs(rows: usize, columns: usize, position: &[u8]) -> Frontier
 }
 
 // The blocks of a position, of any size that the tests accept.
-pub fn read_blocks(rows: usize, columns: usize, position: &[u8]) -> BlockSet
+pub fn read_blocks(edgeless: bool, rows: usize, columns: usize, position: &[u8]) -> BlockSet
     requires { ⌜ Board (now position) rows columns ⌝ }
-    ensures { λ r. ⌜ r ≡ blockSet (frontier (neighbours rows columns) (now (position .entry))) ⌝ }
+    ensures { λ r. ⌜ r ≡ blockSet (frontier (neighbours edgeless rows columns) (now (position .entry))) ⌝ }
 {
     let mut beside = [65535u16; 8192];
     let mut left = [0u16; 1024];
-    let mut n = read_sources(rows, columns, position, &mut beside, &mut left);
+    let mut n = read_sources(edgeless, rows, columns, position, &mut beside, &mut left);
     let mut found = [0u16; 1024];
     let mut places = [0u16; 1024];
     let mut cells = [0u16; 1024];
@@ -66,10 +66,11 @@ pub fn read_blocks(rows: usize, columns: usize, position: &[u8]) -> BlockSet
     let mut e = 0;
     let mut blocks = 0;
     while 0 < n {
-        let sizes = grow_block(columns, &beside, &mut left, n, &mut found);
+        let sizes = grow_block(edgeless, columns, &beside, &mut left, n, &mut found);
         let len = sizes.found;
-        k = fill_cells(columns, &beside, &found, len, &mut places, &mut cells, k);
+        k = fill_cells(&beside, &found, len, &mut places, &mut cells, k);
         e = fill_equations(
+            edgeless,
             rows,
             columns,
             position,

@@ -3,7 +3,7 @@
 -- come from different sources, and a source beside a cell is one of its neighbours. `near` is mutual and lists at most eight neighbours of a cell, none
 -- twice. Rests on Partition and BlockLaws of the crate frontier. Assumes nothing.
 use mathlib.Core.Path.{_≡_, refl, sym, ap, _∙_}
-use mathlib.Core.Bool.{true, false, not, _&&_}
+use mathlib.Core.Bool.{Bool, true, false, not, _&&_}
 use mathlib.Core.List.{List, [], _∷_, List·Memᴰ}
 use Prim.Native.Nat.{ℕ, _*_, _≤_, _<_}
 use native.Mathlib.Omega.{arith}
@@ -24,7 +24,6 @@ use Rattle.lists.proofs.PlacesAndRanges.{count-places}
 use Rattle.lists.proofs.PartedLists.{member-among}
 use Rattle.grid.specs.Cells.{shows}
 use Rattle.grid.specs.Window.{neighbours, Board}
-use Rattle.grid.proofs.Places.{some-column}
 use Rattle.grid.proofs.Neighbours.{neighbours-nodup, neighbours-few, neighbours-mutual}
 use Rattle.refusals.proofs.Sides.{few-cells}
 use Rattle.refusals.proofs.Accepted.{AcceptedPosition}
@@ -156,16 +155,16 @@ module _ (near : ℕ → List ℕ) (p : List ℕ) (once : (c : ℕ) → nodup (n
 
 -- ---- on a board of rows and columns
 
-pub frontier-combinable : (rows columns : ℕ) (p : List ℕ) → Board p rows columns
-    → (b : Block) → List·Memᴰ b (frontier (neighbours rows columns) p) → Combinable b
-frontier-combinable rows columns p board =
-    blocks-combinable (neighbours rows columns) p (neighbours-nodup rows columns)
-    (λ c l. let on : c < rows * columns = omega (arith, board .whole) in neighbours-few rows columns c on (some-column rows columns c on))
-    (λ c d l h. let on : d < rows * columns = omega (arith, board .whole) in neighbours-mutual rows columns d c on (some-column rows columns d on) h)
+pub frontier-combinable : (edgeless : Bool) (rows columns : ℕ) (p : List ℕ) → Board p rows columns
+    → (b : Block) → List·Memᴰ b (frontier (neighbours edgeless rows columns) p) → Combinable b
+frontier-combinable edgeless rows columns p board =
+    blocks-combinable (neighbours edgeless rows columns) p (neighbours-nodup edgeless rows columns)
+    (λ c _. neighbours-few edgeless rows columns c)
+    (λ c d l h. let on : d < rows * columns = omega (arith, board .whole) in neighbours-mutual edgeless rows columns d c on h)
     (omega (arith, board .whole, few-cells (board .sized)))
 
-module _ (rows columns : ℕ) (p : List ℕ) where
+module _ (edgeless : Bool) (rows columns : ℕ) (p : List ℕ) where
   -- so can those that are read from an accepted position
-  pub read-combinable : AcceptedPosition rows columns p → (set : BlockSet) → set ≡ blockSet (frontier (neighbours rows columns) p)
+  pub read-combinable : AcceptedPosition rows columns p → (set : BlockSet) → set ≡ blockSet (frontier (neighbours edgeless rows columns) p)
       → (b : Block) → List·Memᴰ b (blocksOf set) → Combinable b
-  read-combinable a set is = rw (read-frontier rows columns p a set is) (frontier-combinable rows columns p (a .board))
+  read-combinable a set is = rw (read-frontier edgeless rows columns p a set is) (frontier-combinable edgeless rows columns p (a .board))

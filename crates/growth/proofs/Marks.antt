@@ -24,9 +24,9 @@ marks-tell slots c d {own} {other} marks is-own is-other marked told =
     ∙ rw (cells-listed (slotCells slots c) is-own, cells-listed (slotCells slots d) is-other)
 
 -- cells too far apart share nothing
-pub far-apart : {columns : ℕ} {slots : List ℕ} → Slots columns slots → (c d : ℕ) {t : Bool} → t ≡ nearEnough columns c d → t ≡ false → slotsMeet slots c d ≡ false
-far-apart {columns} {slots} ok c d told h = go (decided (slotsMeet slots c d))
+pub far-apart : {edgeless : Bool} {columns : ℕ} {slots : List ℕ} → Slots edgeless columns slots → (c d : ℕ) {t : Bool} → t ≡ nearEnough edgeless columns c d → t ≡ false → slotsMeet slots c d ≡ false
+far-apart {edgeless} {columns} {slots} ok c d told h = go (decided (slotsMeet slots c d))
   where
     go : Decided (slotsMeet slots c d) → slotsMeet slots c d ≡ false
-    go (inl e) = clash (nearEnough columns c d) (ok .reach c d e) (sym told ∙ h)
+    go (inl e) = clash (nearEnough edgeless columns c d) (ok .reach c d e) (sym told ∙ h)
     go (inr e) = e

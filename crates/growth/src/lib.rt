@@ -18,11 +18,14 @@ pub struct Sizes {
     pub found: usize,
 }
 
-// Two cells so far apart touch no cell in common.
-fn near_enough(columns: usize, c: usize, d: usize) -> bool
+// Two cells further apart than this touch no cell in common. Without an edge their numbers don't tell.
+fn near_enough(edgeless: bool, columns: usize, c: usize, d: usize) -> bool
     requires { ⌜ (columns ≤ 32) × (c < 1024) × (d < 1024) ⌝ }
-    ensures { λ r. ⌜ r ≡ nearEnough columns c d ⌝ }
+    ensures { λ r. ⌜ r ≡ nearEnough edgeless columns c d ⌝ }
 {
+    if edgeless {
+        return true;
+    }
     let reach = 2 * columns + 2;
     if c + reach < d {
         return false;
@@ -35,6 +38,7 @@ fn near_enough(columns: usize, c: usize, d: usize) -> bool
 
 // Takes the sources that share a closed cell with c out of the sources left, the first of which is the block's own and stays.
 fn take_sharing(
+    edgeless: bool,
     columns: usize,
     beside: &[u16; 8192],
     c: usize,
@@ -42,7 +46,7 @@ fn take_sharing(
     before: Sizes,
     found: &mut [u16; 1024],
 ) -> Sizes
-    requires { ⌜ Slots columns (now beside) ⌝ }
+    requires { ⌜ Slots edgeless columns (now beside) ⌝ }
     requires { ⌜ c < 1024 ⌝ }
     requires { ⌜ Cells (now left) (before .left) ⌝ }
     requires { ⌜ Cells (now found) (before .found) ⌝ }
@@ -61,7 +65,7 @@ fn take_sharing(
     while 1 < t {
         t -= 1;
         let d = wide(left[t]);
-        if near_enough(columns, c, d) {
+        if near_enough(edgeless, columns, c, d) {
             if meets_marks(&marks, slots_at(beside, d)) {
                 found[len] = left[t];
                 len += 1;
@@ -78,13 +82,14 @@ fn take_sharing(
 
 // Grows the block of the first of n sources left.
 pub fn grow_block(
+    edgeless: bool,
     columns: usize,
     beside: &[u16; 8192],
     left: &mut [u16; 1024],
     n: usize,
     found: &mut [u16; 1024],
 ) -> Sizes
-    requires { ⌜ Slots columns (now beside) ⌝ }
+    requires { ⌜ Slots edgeless columns (now beside) ⌝ }
     requires { ⌜ Cells (now left) n × (1 ≤ n) ⌝ }
     requires { ⌜ length (now found) ≡ 1024 ⌝ }
     ensures { λ r. ⌜ take (r .found) (now (found .exit))
@@ -99,7 +104,7 @@ pub fn grow_block(
     let mut h = 0;
     while h < sizes.found {
         let c = wide(found[h]);
-        sizes = take_sharing(columns, beside, c, left, sizes, found);
+        sizes = take_sharing(edgeless, columns, beside, c, left, sizes, found);
         h += 1;
     }
     sizes

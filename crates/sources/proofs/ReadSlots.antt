@@ -99,8 +99,7 @@ module _ (edgeless : Bool) {rows columns : ℕ} {p slots list : List ℕ} {len :
   read-slots =
       record {
         few-columns = board .sized .few-columns;
-        wide = read .wide;
-        on-board = on-board;
+        held = record { wide = read .wide; on-board = on-board };
         reach = λ c d h.
             let (x, a, b) = meets-at (slotCells slots c) (slotCells slots d) h in
             touch-near edgeless rows columns c d x (touches c x a) (touches d x b);

@@ -30,11 +30,15 @@ slotsMeet slots c d = meets (slotCells slots c) (slotCells slots d)
 abbrev pub nearEnough : Bool → ℕ → ℕ → ℕ → Bool
 nearEnough edgeless columns c d = edgeless || (leb d (c + (2 * columns + 2)) && leb c (d + (2 * columns + 2)))
 
--- slots that hold only cells of the board, and meet only where their places are near enough
-pub record Slots (edgeless : Bool) (columns : ℕ) (slots : List ℕ) : Type 0 where
-  pub few-columns : columns ≤ 32
+-- slots that hold only cells of the board
+pub record BoardSlots (slots : List ℕ) : Type 0 where
   pub wide : length slots ≡ 8192
   pub on-board : (c : ℕ) → all (λ d. ltb d 1024) (slotCells slots c) ≡ true
+
+-- and meet only where their places are near enough
+pub record Slots (edgeless : Bool) (columns : ℕ) (slots : List ℕ) : Type 0 where
+  pub few-columns : columns ≤ 32
+  pub held : BoardSlots slots
   pub reach : (c d : ℕ) → slotsMeet slots c d ≡ true → nearEnough edgeless columns c d ≡ true
 
 -- the first n of an array of 1024 are below 1024

@@ -15,24 +15,25 @@ use Rattle.flood.proofs.SoFar.{SoFar}
 use Rattle.flood.proofs.Reached.{so-far-ends}
 use Rattle.flood.proofs.Opening.{taken-on, room-taken, held-counts}
 use Rattle.flood.proofs.Waiting.{waiting, so-far-held, so-far-first, so-far-zero, so-far-number, so-far-last}
-use Rattle.flood.proofs.OnBoard.{room-first, near-few, beside-cells, beside-few, beside-on}
+use Rattle.grid.proofs.Neighbours.{neighbours-few}
+use Rattle.flood.proofs.OnBoard.{room-first, beside-cells, beside-few, beside-on}
 use Rattle.flood.proofs.refresh_board.Statement.{statement}
 use Rattle.flood.proofs.refresh_board.Tie as tie
 
 abbrev Inv-loop : tie.InvT-loop
-Inv-loop rows columns board position₀ list count stack₀ n₀ position stack n =
+Inv-loop edgeless rows columns board position₀ list count stack₀ n₀ position stack n =
     Room board position stack n
-    × ((p cs : List ℕ) → SoFar (neighbours rows columns) board p cs position₀ (waiting (neighbours rows columns) board (take n₀ stack₀))
-    → SoFar (neighbours rows columns) board p cs position (waiting (neighbours rows columns) board (take n stack)))
+    × ((p cs : List ℕ) → SoFar (neighbours edgeless rows columns) board p cs position₀ (waiting (neighbours edgeless rows columns) board (take n₀ stack₀))
+    → SoFar (neighbours edgeless rows columns) board p cs position (waiting (neighbours edgeless rows columns) board (take n stack)))
 
 abbrev μ-loop : tie.MeasureT-loop
-μ-loop rows columns board position₀ list count stack₀ n₀ position stack n = n + closed position
+μ-loop edgeless rows columns board position₀ list count stack₀ n₀ position stack n = n + closed position
 
 open-first-requires : tie.Need-open-first-requires Inv-loop μ-loop
 open-first-requires c κs =
     let s = c .before .before .before .before in
     let board = s .pre .0 .0 in
-    (room-first (s .args .rows) (s .args .columns) _ board (s .pre .1 .0) _ (s .pre .0 .1), (s .pre .1 .1 .0, s .pre .1 .1 .1, rw (board .whole) (s .pre .1 .1 .2)))
+    (room-first (s .args .edgeless) (s .args .rows) (s .args .columns) _ board (s .pre .1 .0) _ (s .pre .0 .1), (s .pre .1 .1 .0, s .pre .1 .1 .1, rw (board .whole) (s .pre .1 .1 .2)))
 
 loop-holds : tie.Need-loop-holds Inv-loop μ-loop
 loop-holds c = (c .before .before .open-first .ensures .0, λ p cs f. f)
@@ -82,7 +83,7 @@ open-list-requires c κs =
     let board = s .pre .0 .0 in
     let list = c .before .before .neighbours-showing .ensures in (
       room-taken _ (l .position) (l .stack) (l .n) _ (l .inv .0) some at,
-      (beside-few _ _ _ board _ here (l .position) _ list, beside-on _ _ _ board _ here (l .position) _ list),
+      (beside-few _ _ _ _ board _ here (l .position) _ list, beside-on _ _ _ _ board _ here (l .position) _ list),
     )
 
 loop-less : tie.Need-loop-less Inv-loop μ-loop
@@ -104,7 +105,7 @@ loop-again c =
     let here = on (c .before .before .before .before .before .before .before .before .before) in
     let o = c .before .before .open-list in
     let few : l .n ≤ length (l .stack) = omega (arith, l .inv .0 .room, l .inv .0 .long) in
-    let list = beside-cells _ _ _ (s .pre .0 .0) _ here (l .position) _ (c .before .before .before .before .before .neighbours-showing .ensures) in (
+    let list = beside-cells _ _ _ _ (s .pre .0 .0) _ here (l .position) _ (c .before .before .before .before .before .neighbours-showing .ensures) in (
       o .ensures .0,
       λ p cs f. so-far-held _ _ p cs (s .pre .1 .0) (l .position) (l .stack) (l .n - 1) _ (o .last .1 .0) (o .last .1 .1 .1 .0) (o .result) (rw list at (o .ensures .1))
           (so-far-zero _ _ p cs (l .position) (l .stack) (l .n) _ few some at (l .inv .1 p cs f) zero),
@@ -137,7 +138,7 @@ returns c =
     let cs = take (s .args .count) (s .args .list .now) in
     let o = c .before .before .before .before .open-first in
     let first = so-far-first _ _ p cs ok (o .last .1 .0) (o .last .1 .1 .1 .1 .0) (o .result) whole (o .ensures .1) in
-    so-far-ends _ _ ok (near-few _ _ _ board) p whole cs _ (so-far-last _ _ p cs _ (l .stack) (l .n) (c .loop-test .left) (l .inv .1 p cs first))
+    so-far-ends _ _ ok (λ c _. neighbours-few _ _ _ c) p whole cs _ (so-far-last _ _ p cs _ (l .stack) (l .n) (c .loop-test .left) (l .inv .1 p cs first))
 
 pub refresh-board-spec : {M : Type 1} → statement M
 refresh-board-spec =

@@ -12,13 +12,13 @@ use Rattle.frontier.proofs.read_blocks.Statement.{statement}
 use Rattle.frontier.proofs.read_blocks.Tie as tie
 
 abbrev Inv-loop : tie.InvT-loop
-Inv-loop rows columns position beside left₀ n₀ found₀ places₀ cells₀ cell-ends₀ slots₀ rests₀ equation-ends₀ k₀ e₀ blocks₀ left n found places cells cell-ends slots rests equation-ends k e blocks =
-    BlocksSoFar rows columns position beside left n places
+Inv-loop edgeless rows columns position beside left₀ n₀ found₀ places₀ cells₀ cell-ends₀ slots₀ rests₀ equation-ends₀ k₀ e₀ blocks₀ left n found places cells cell-ends slots rests equation-ends k e blocks =
+    BlocksSoFar edgeless rows columns position beside left n places
     record { cells = cells; «cell_ends» = cell-ends; slots = slots; rests = rests; «equation_ends» = equation-ends; blocks = blocks } k e
     × (length found ≡ 1024)
 
 abbrev μ-loop : tie.MeasureT-loop
-μ-loop rows columns position beside left₀ n₀ found₀ places₀ cells₀ cell-ends₀ slots₀ rests₀ equation-ends₀ k₀ e₀ blocks₀ left n found places cells cell-ends slots rests equation-ends k e blocks =
+μ-loop edgeless rows columns position beside left₀ n₀ found₀ places₀ cells₀ cell-ends₀ slots₀ rests₀ equation-ends₀ k₀ e₀ blocks₀ left n found places cells cell-ends slots rests equation-ends k e blocks =
     n
 
 -- ---- what is known where: the function's start, once the sources are read, at the loop, and once a block has grown
@@ -33,20 +33,20 @@ abbrev grown : tie.After-fill-equations Inv-loop μ-loop → tie.After-grow-bloc
 grown c = c .before .before .before .before .before .before .before .before .before .before .before
 
 -- what the slots of the sources tell
-slots : (c : tie.After-read-sources Inv-loop μ-loop) → Slots (start c .args .columns) (c .read-sources .last .1 .1 .1 .0)
-slots c = read-slots (start c .pre) (c .read-sources .ensures)
+slots : (c : tie.After-read-sources Inv-loop μ-loop) → Slots (start c .args .edgeless) (start c .args .columns) (c .read-sources .last .1 .1 .1 .1 .0)
+slots c = read-slots _ (start c .pre) (c .read-sources .ensures)
 
 -- there is room for the block that has grown
 fits : (c : tie.After-grow-block Inv-loop μ-loop)
     → (let a = start (loop c .before) .args in
-    let beside = loop c .before .read-sources .last .1 .1 .1 .0 in
+    let beside = loop c .before .read-sources .last .1 .1 .1 .1 .0 in
     let l = loop c .loop in
-    NextFits (a .rows) (a .columns) (a .position .now) beside (c .grow-block .last .1 .1 .1 .1 .0) (c .grow-block .result .found)
+    NextFits (a .rows) (a .columns) (a .position .now) beside (c .grow-block .last .1 .1 .1 .1 .1 .0) (c .grow-block .result .found)
     (l .slots) (l .rests) (l .k) (l .e) (l .blocks))
 fits c =
     let read = loop c .before in
     let told = c .grow-block .ensures in
-    next-fits (start read .pre) (read .read-sources .ensures) (loop c .loop .inv .0) (c .before .before .before .before .loop-test .taken)
+    next-fits _ (start read .pre) (read .read-sources .ensures) (loop c .loop .inv .0) (c .before .before .before .before .loop-test .taken)
     (told .1 .1 .0 .1) (told .1 .1 .0 .0) (told .0) (told .1 .0)
 
 -- ---- the needs
@@ -55,7 +55,7 @@ read-sources-requires : tie.Need-read-sources-requires Inv-loop μ-loop
 read-sources-requires c κs = (c .before .before .before .pre, read-none _ _ _ refl)
 
 loop-holds : tie.Need-loop-holds Inv-loop μ-loop
-loop-holds c = (none-so-far (start c .pre) (c .read-sources .ensures), refl)
+loop-holds c = (none-so-far _ (start c .pre) (c .read-sources .ensures), refl)
 
 grow-block-requires : tie.Need-grow-block-requires Inv-loop μ-loop
 grow-block-requires c κs =
@@ -65,7 +65,7 @@ grow-block-requires c κs =
 fill-cells-requires : tie.Need-fill-cells-requires Inv-loop μ-loop
 fill-cells-requires c κs =
     let g = c .before .before .before .before in
-    ((slots (loop g .before), g .grow-block .ensures .1 .1 .0 .1), (loop g .loop .inv .0 .placed, fits g .cells-room))
+    ((slots (loop g .before) .held, g .grow-block .ensures .1 .1 .0 .1), (loop g .loop .inv .0 .placed, fits g .cells-room))
 
 fill-equations-requires : tie.Need-fill-equations-requires Inv-loop μ-loop
 fill-equations-requires c κs =
@@ -74,7 +74,7 @@ fill-equations-requires c κs =
     let long = c .before .before .before .before .before .fill-cells .ensures .0 .long in (
       start (loop g .before) .pre,
       (
-        (slots (loop g .before), g .grow-block .ensures .1 .1 .0 .1),
+        (slots (loop g .before) .held, g .grow-block .ensures .1 .1 .0 .1),
         ((long, room .slots-long, room .rests-long, room .equations-room), room .are-open),
       ),
     )
@@ -116,7 +116,7 @@ loop-again c =
     let filled = c .before .before .before .before .before .before .before .before .fill-cells .ensures in
     let written = c .before .before .fill-equations .ensures in
     let dropped = c .drop-first .ensures in (
-      one-more (start read .pre) (read .read-sources .ensures) (loop g .loop .inv .0) (g .before .before .before .before .loop-test .taken)
+      one-more _ (start read .pre) (read .read-sources .ensures) (loop g .loop .inv .0) (g .before .before .before .before .loop-test .taken)
           (told .1 .1 .0 .1) (told .1 .1 .0 .0) (told .0) (told .1 .0)
           (filled .0) (filled .1 .0) (filled .1 .1) (written .0) (written .1 .0) (written .1 .1)
           (dropped .1 .0) (dropped .0) (told .1 .1 .1 .1) (dropped .1 .1),
@@ -126,7 +126,7 @@ loop-again c =
 returns : tie.Need-returns Inv-loop μ-loop
 returns c =
     let read = c .before .before in
-    all-so-far (start read .pre) (read .read-sources .ensures) (c .before .loop .inv .0) (c .loop-test .left)
+    all-so-far _ (start read .pre) (read .read-sources .ensures) (c .before .loop .inv .0) (c .loop-test .left)
 
 pub read-blocks-spec : {M : Type 1} → statement M
 read-blocks-spec =

@@ -22,10 +22,10 @@ abbrev μ-loop : tie.MeasureT-loop
 μ-loop edgeless columns beside c left₀ found₀ marks n₀ len₀ t₀ left found n len t = t
 
 slots-at-requires : tie.Need-slots-at-requires Inv-loop μ-loop
-slots-at-requires c κs = (c .pre .0 .wide, c .pre .1 .0)
+slots-at-requires c κs = (c .pre .0 .held .wide, c .pre .1 .0)
 
 marks-of-requires : tie.Need-marks-of-requires Inv-loop μ-loop
-marks-of-requires c κs = listed-below _ _ _ (c .slots-at .ensures) (c .before .pre .0 .on-board _)
+marks-of-requires c κs = listed-below _ _ _ (c .slots-at .ensures) (c .before .pre .0 .held .on-board _)
 
 loop-holds : tie.Need-loop-holds Inv-loop μ-loop
 loop-holds c = let pre = c .before .before .pre in (pre .1 .1 .1 .1 .0, omega arith, refl, scan-begins _ (pre .1 .1 .0) (pre .1 .1 .1 .0))
@@ -58,11 +58,11 @@ near-enough-requires : tie.Need-near-enough-requires Inv-loop μ-loop
 near-enough-requires c κs = let pre = c .before .before .before .before .before .before .pre in (pre .0 .few-columns, pre .1 .0, below c)
 
 slots-at-requires-2 : tie.Need-slots-at-requires-2 Inv-loop μ-loop
-slots-at-requires-2 c κs = (c .before .before .before .before .before .before .before .before .before .pre .0 .wide, below (c .before .before .before))
+slots-at-requires-2 c κs = (c .before .before .before .before .before .before .before .before .before .pre .0 .held .wide, below (c .before .before .before))
 
 meets-marks-requires : tie.Need-meets-marks-requires Inv-loop μ-loop
 meets-marks-requires c κs =
-    listed-below _ _ _ (c .slots-at2 .ensures) (c .before .before .before .before .before .before .before .before .before .before .pre .0 .on-board _)
+    listed-below _ _ _ (c .slots-at2 .ensures) (c .before .before .before .before .before .before .before .before .before .before .pre .0 .held .on-board _)
 
 -- the marks tell whether it shares a closed cell
 shares-told : (c : tie.After-meets-marks Inv-loop μ-loop) → sharesHere (c .before .before .before .before .before) ≡ c .meets-marks .result

@@ -13,16 +13,16 @@ use Rattle.frontier.proofs.counts.inside_cells.Statement.{statement}
 use Rattle.frontier.proofs.counts.inside_cells.Tie as tie
 
 abbrev Inv-loop : tie.InvT-loop
-Inv-loop rows columns position count₀ c₀ c-end count c =
-    (count + insideFrom (neighbours rows columns) position c ≡ insideCells (neighbours rows columns) position) × (count ≤ c)
+Inv-loop edgeless rows columns position count₀ c₀ c-end count c =
+    (count + insideFrom (neighbours edgeless rows columns) position c ≡ insideCells (neighbours edgeless rows columns) position) × (count ≤ c)
 
 abbrev μ-loop : tie.MeasureT-loop
-μ-loop rows columns position count₀ c₀ c-end count c = c-end - c
+μ-loop edgeless rows columns position count₀ c₀ c-end count c = c-end - c
 
 loop-holds : tie.Need-loop-holds Inv-loop μ-loop
 loop-holds c =
     let a = c .before .args in
-    (omega (arith, inside-all (neighbours (a .rows) (a .columns)) (a .position .now)), omega arith)
+    (omega (arith, inside-all (neighbours (a .edgeless) (a .rows) (a .columns)) (a .position .now)), omega arith)
 
 shared-slice-read-if1 : tie.Need-shared-slice-read-if1 Inv-loop μ-loop
 shared-slice-read-if1 c = search needs
@@ -52,7 +52,7 @@ loop-less c = search needs
 loop-again : tie.Need-loop-again Inv-loop μ-loop
 loop-again c =
     let a = c .before .before .before .before .before .args in
-    let near = neighbours (a .rows) (a .columns) in
+    let near = neighbours (a .edgeless) (a .rows) (a .columns) in
     let p = a .position .now in
     let here = c .before .before .before .loop .c in
     let on = c .before .before .loop-test .taken in
@@ -66,7 +66,7 @@ loop-again c =
 returns : tie.Need-returns Inv-loop μ-loop
 returns c =
     let a = c .before .before .before .args in
-    omega (arith, inside-none (neighbours (a .rows) (a .columns)) (a .position .now) (c .before .loop .c) (c .loop-test .left))
+    omega (arith, inside-none (neighbours (a .edgeless) (a .rows) (a .columns)) (a .position .now) (c .before .loop .c) (c .loop-test .left))
 
 pub inside-cells-spec : {M : Type 1} → statement M
 inside-cells-spec =

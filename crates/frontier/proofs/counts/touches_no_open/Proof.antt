@@ -15,12 +15,12 @@ use Rattle.frontier.proofs.counts.touches_no_open.Statement.{statement}
 use Rattle.frontier.proofs.counts.touches_no_open.Tie as tie
 
 abbrev Inv-loop : tie.InvT-loop
-Inv-loop rows columns position row column cells len t₀ t =
-    any (isOpen position) (drop t (neighbours rows columns (row * columns + column)))
-    ≡ any (isOpen position) (neighbours rows columns (row * columns + column))
+Inv-loop edgeless rows columns position row column cells len t₀ t =
+    any (isOpen position) (drop t (neighbours edgeless rows columns (row * columns + column)))
+    ≡ any (isOpen position) (neighbours edgeless rows columns (row * columns + column))
 
 abbrev μ-loop : tie.MeasureT-loop
-μ-loop rows columns position row column cells len t₀ t = len - t
+μ-loop edgeless rows columns position row column cells len t₀ t = len - t
 
 neighbours-of-requires : tie.Need-neighbours-of-requires Inv-loop μ-loop
 neighbours-of-requires c κs = search needs
@@ -32,7 +32,7 @@ loop-holds c = refl
 inside : (c : tie.In-loop Inv-loop μ-loop) → c .before .loop .t < 8
 inside c =
     let before = c .loop-test .taken in
-    omega (arith, near-few _ _ _ _ _ (c .before .before .before .before .before .pre .1) (c .before .before .before .neighbours-of .ensures))
+    omega (arith, near-few _ _ _ _ _ _ (c .before .before .before .before .before .pre .1) (c .before .before .before .neighbours-of .ensures))
 
 mul-wide : tie.Need-mul-wide Inv-loop μ-loop
 mul-wide c = omega (arith, inside c)
@@ -47,14 +47,14 @@ shared-slice-read-if1 : tie.Need-shared-slice-read-if1 Inv-loop μ-loop
 shared-slice-read-if1 c =
     let near = c .before .before .before .before .before .neighbours-of .ensures in
     let pre = c .before .before .before .before .before .before .before .pre in
-    omega (arith, near-on _ _ _ _ _ (pre .1) near _ _ (c .before .before .loop-test .taken) (c .before .wide .ensures), pre .0 .whole)
+    omega (arith, near-on _ _ _ _ _ _ (pre .1) near _ _ (c .before .before .loop-test .taken) (c .before .wide .ensures), pre .0 .whole)
 
 -- the position, and the neighbours of the cell
 abbrev shown : tie.After-shared-slice-known2 Inv-loop μ-loop → List ℕ
 shown c = c .before .before .before .before .before .before .before .args .position .now
 
 abbrev beside : tie.After-shared-slice-known2 Inv-loop μ-loop → List ℕ
-beside c = let a = c .before .before .before .before .before .before .before .args in neighbours (a .rows) (a .columns) (a .row * a .columns + a .column)
+beside c = let a = c .before .before .before .before .before .before .before .args in neighbours (a .edgeless) (a .rows) (a .columns) (a .row * a .columns + a .column)
 
 -- what is left begins with the cell that the slot has
 next : (c : tie.After-shared-slice-known2 Inv-loop μ-loop)
@@ -62,7 +62,7 @@ next : (c : tie.After-shared-slice-known2 Inv-loop μ-loop)
 next c =
     let on = c .before .before .before .before .before .before .before .pre .1 in
     let near = c .before .before .before .before .before .neighbours-of .ensures in
-    rw (near-more _ _ _ _ _ on near _ _ (c .before .before .loop-test .taken) (c .before .wide .ensures)) at (c .before .before .before .loop .inv)
+    rw (near-more _ _ _ _ _ _ on near _ _ (c .before .before .loop-test .taken) (c .before .wide .ensures)) at (c .before .before .before .loop .inv)
 
 returns : tie.Need-returns Inv-loop μ-loop
 returns c = ap not (rw (read-open (shown (c .before)) _ (shared-slice-read-if1 (c .before)) (c .if1 .taken)) at (next (c .before)))
@@ -79,7 +79,7 @@ loop-again c = rw (read-not-open (shown (c .before)) _ (shared-slice-read-if1 (c
 returns-2 : tie.Need-returns-2 Inv-loop μ-loop
 returns-2 c =
     let start = c .before .before .before .before .before in
-    let none = near-none _ _ _ _ _ (start .pre .1) (c .before .before .before .neighbours-of .ensures) _ (c .loop-test .left) in
+    let none = near-none _ _ _ _ _ _ (start .pre .1) (c .before .before .before .neighbours-of .ensures) _ (c .loop-test .left) in
     ap not (rw none at (c .before .loop .inv))
 
 pub touches-no-open-spec : {M : Type 1} → statement M
