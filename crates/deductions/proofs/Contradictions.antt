@@ -16,7 +16,7 @@ use Rattle.lists.proofs.Tests.{Decided, decided, clash}
 use Rattle.lists.proofs.Occurrences.{empty-nil}
 use Rattle.grid.specs.Cells.{shows}
 use Rattle.grid.specs.Window.{around, neighbours}
-use Rattle.grid.proofs.Neighbours.{neighbours-nodup}
+use Rattle.grid.proofs.Neighbours.{neighbours-nodup, neighbours-few}
 use Rattle.refusals.specs.declared.Refusal.the-variants.{Size, Length, Cell}
 use Rattle.refusals.specs.declared.Tested.{Tested}
 use Rattle.refusals.specs.declared.Tested.the-variants.{Accepted, Refused}
@@ -41,7 +41,6 @@ use Rattle.rules.proofs.FromPosition.{direct-contradiction-at}
 use Rattle.subtraction.specs.Minus.{subtraction}
 use Rattle.subtraction.proofs.MinusLaws.{subtraction-no-contradiction}
 use Rattle.solutions.specs.Enumeration.{enumerated}
-use Rattle.solutions.proofs.BoardRules.{neighbours-few-everywhere}
 use Rattle.solutions.proofs.NoSolution.{enumeration-contradiction-at}
 use Rattle.deductions.specs.Answers.{Seen, seen, refusedAnswer, afterTests, deduction, solveDirect, solveMinus, solveEnumerate}
 use Rattle.deductions.specs.Contradictions.{Placing, NoPlacing, TestsPass, DirectRefuses, MinusRefuses, EnumerateRefuses}
@@ -115,12 +114,12 @@ module _ (rows columns : ℕ) (p : List ℕ) where
   direct-meets = (λ k. sym at ∙ k, λ k. at ∙ k)
     where
       at : direct (frontier near p) .contradiction ≡ isContradictoryAt near p
-      at = direct-contradiction-at near p (neighbours-nodup rows columns) (neighbours-few-everywhere rows columns)
+      at = direct-contradiction-at near p (neighbours-nodup rows columns) (neighbours-few rows columns)
 
   -- a placing solves every equation
   placing-solves : (f : ℕ → Bool) → Placing near p f
       → (e : BlockEquation) → List·Memᴰ e (allEquations (frontier near p)) → Holds f (says e)
-  placing-solves = sources-solve near p (neighbours-nodup rows columns) (neighbours-few-everywhere rows columns)
+  placing-solves = sources-solve near p (neighbours-nodup rows columns) (neighbours-few rows columns)
 
   -- so there is none where the direct rule meets a contradiction: where solve_direct refuses with 6, solve_enumerate does
   pub contradictory-no-placing : isContradictoryAt near p ≡ true → NoPlacing near p
@@ -153,7 +152,7 @@ module _ (rows columns : ℕ) (p s m : List ℕ) (r : DeductionAnswer) (p′ s�
   unfolding solveEnumerate
   enumerate-refuses-exactly call =
       call-refuses enumerated (NoPlacing (neighbours rows columns) p) rows columns p s m r p′ s′ m′ call
-      (enumeration-contradiction-at (neighbours rows columns) p (neighbours-nodup rows columns) (neighbours-few-everywhere rows columns))
+      (enumeration-contradiction-at (neighbours rows columns) p (neighbours-nodup rows columns) (neighbours-few rows columns))
 
 -- ---- placings and layouts
 

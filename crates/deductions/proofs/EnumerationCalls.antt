@@ -11,7 +11,7 @@ use Rattle.lists.specs.Lists.{has}
 use Rattle.lists.proofs.ReadBack.{front-read}
 use Rattle.lists.proofs.Unions.{has-mem}
 use Rattle.grid.specs.Window.{neighbours}
-use Rattle.grid.proofs.Neighbours.{neighbours-nodup}
+use Rattle.grid.proofs.Neighbours.{neighbours-nodup, neighbours-few}
 use Rattle.refusals.specs.declared.Tested.the-variants.{Accepted}
 use Rattle.refusals.specs.Refusals.{testedNumber}
 use Rattle.refusals.specs.Tests.{deductionTested}
@@ -22,7 +22,6 @@ use Rattle.rules.specs.Found.{Found}
 use Rattle.rules.proofs.Soundness.{SoundAt, listed-few}
 use Rattle.solutions.specs.Enumeration.{enumerated}
 use Rattle.solutions.proofs.Completeness.{CompleteAt, enumeration-sound-at, enumeration-complete-at}
-use Rattle.solutions.proofs.BoardRules.{neighbours-few-everywhere}
 use Rattle.deductions.specs.Answers.{Seen, seen, afterFound, solveEnumerate}
 use Rattle.deductions.specs.Calls.{SoundCall, AmongFirst, CompleteCall}
 use Rattle.deductions.specs.declared.answer.DeductionAnswer.{DeductionAnswer}
@@ -35,12 +34,12 @@ use Rattle.lists.proofs.PlacesAndRanges.{mem-place}
 module _ (rows columns : ℕ) (p : List ℕ) where
   -- it is sound there
   pub enumeration-sound-on : SoundAt (neighbours rows columns) p (enumerated (frontier (neighbours rows columns) p))
-  enumeration-sound-on = enumeration-sound-at (neighbours rows columns) (neighbours-nodup rows columns) (neighbours-few-everywhere rows columns) p
+  enumeration-sound-on = enumeration-sound-at (neighbours rows columns) (neighbours-nodup rows columns) (neighbours-few rows columns) p
 
   -- and complete, where some layout fits
   enumeration-complete-on : (layout : List Bool) → Fits (neighbours rows columns) p layout
       → CompleteAt (neighbours rows columns) p (enumerated (frontier (neighbours rows columns) p))
-  enumeration-complete-on = enumeration-complete-at (neighbours rows columns) (neighbours-nodup rows columns) (neighbours-few-everywhere rows columns) p
+  enumeration-complete-on = enumeration-complete-at (neighbours rows columns) (neighbours-nodup rows columns) (neighbours-few rows columns) p
 
 -- ---- one list
 

@@ -1,6 +1,7 @@
 -- The frontier of a position is what the rules ask for: no cell stands in two blocks or twice in an equation, and the cells of an equation are its block's.
 -- So is the block set that is read from an accepted position. Rests on the laws of the frontier. Assumes nothing.
 use mathlib.Core.Path.{_≡_}
+use mathlib.Core.Bool.{Bool}
 use mathlib.Core.List.{List}
 use Prim.Native.Nat.{ℕ}
 use Rattle.lists.specs.Lists.{all, has, nodup}
@@ -30,8 +31,8 @@ frontier-ready near p = record {
 
 -- ---- the block set of an accepted position
 
-module _ (rows columns : ℕ) (p : List ℕ) (a : AcceptedPosition rows columns p) where
-  module _ (set : BlockSet) (is : set ≡ blockSet (frontier (neighbours rows columns) p)) where
+module _ (edgeless : Bool) (rows columns : ℕ) (p : List ℕ) (a : AcceptedPosition rows columns p) where
+  module _ (set : BlockSet) (is : set ≡ blockSet (frontier (neighbours edgeless rows columns) p)) where
     -- it reads as the frontier, so it is fit for the rules
     pub read-ready : Ready (blocksOf set)
-    read-ready = rw (read-frontier rows columns p a set is) (frontier-ready (neighbours rows columns) p)
+    read-ready = rw (read-frontier edgeless rows columns p a set is) (frontier-ready (neighbours edgeless rows columns) p)

@@ -79,20 +79,20 @@ module _ (b : Block) (proper : Proper b) (t : List ℕ) (room : length (solution
 
 -- ---- the call
 
-module _ (rows columns : ℕ) (p : List ℕ) (k : ℕ) (t : List ℕ) where
+module _ (edgeless : Bool) (rows columns : ℕ) (p : List ℕ) (k : ℕ) (t : List ℕ) where
   abbrev bs : List Block
-  bs = frontier (neighbours rows columns) p
+  bs = frontier (neighbours edgeless rows columns) p
 
   abbrev asked : Block
-  asked = askedBlock rows columns p k
+  asked = askedBlock edgeless rows columns p k
 
   -- the tests refuse
-  pub tests-refuse : (x : Refusal) → positionTested rows columns p ≡ test.Refused x → refused x t ≡ calAllSolution rows columns p k t
+  pub tests-refuse : (x : Refusal) → positionTested rows columns p ≡ test.Refused x → refused x t ≡ calAllSolution edgeless rows columns p k t
   unfolding calAllSolution
   tests-refuse x h = rw h
 
   -- the tests accept
-  pub tests-accept : positionTested rows columns p ≡ test.Accepted → blockAsked bs k t ≡ calAllSolution rows columns p k t
+  pub tests-accept : positionTested rows columns p ≡ test.Accepted → blockAsked bs k t ≡ calAllSolution edgeless rows columns p k t
   unfolding calAllSolution
   tests-accept h = rw h
 
@@ -102,8 +102,8 @@ module _ (rows columns : ℕ) (p : List ℕ) (k : ℕ) (t : List ℕ) where
 
   abbrev Outcome : Type 0
   Outcome =
-      ((x : Refusal) × (Accepts rows columns p k t → ⊥) × (calAllSolution rows columns p k t ≡ refused x t))
-      ⊎ (Accepts rows columns p k t × (calAllSolution rows columns p k t ≡ listing))
+      ((x : Refusal) × (Accepts edgeless rows columns p k t → ⊥) × (calAllSolution edgeless rows columns p k t ≡ refused x t))
+      ⊎ (Accepts edgeless rows columns p k t × (calAllSolution edgeless rows columns p k t ≡ listing))
 
   outcome : Outcome
   unfolding calAllSolution blockAsked tableOf
@@ -121,11 +121,11 @@ module _ (rows columns : ℕ) (p : List ℕ) (k : ℕ) (t : List ℕ) where
       first (test.Refused x) e = inl (x, (λ h. not-both (positionTested rows columns p) x (h .tests) e), rw e)
       first test.Accepted e = next e (decided (ltb k (length bs))) (decided (leb area (length t)))
 
-  module _ (r : TableAnswer) (t′ : List ℕ) (call : tableSeen r t′ ≡ calAllSolution rows columns p k t) where
-    pub table-call : TableCall rows columns p k t (tableNumber r) (tableSolutions r) (tableGroups r) t′
+  module _ (r : TableAnswer) (t′ : List ℕ) (call : tableSeen r t′ ≡ calAllSolution edgeless rows columns p k t) where
+    pub table-call : TableCall edgeless rows columns p k t (tableNumber r) (tableSolutions r) (tableGroups r) t′
     table-call = go outcome
       where
-        go : Outcome → TableCall rows columns p k t (tableNumber r) (tableSolutions r) (tableGroups r) t′
+        go : Outcome → TableCall edgeless rows columns p k t (tableNumber r) (tableSolutions r) (tableGroups r) t′
         go (inl (x, amiss, e)) =
             rw (ap (λ (v : TableSeen). v .answer) (call ∙ e))
             (record {
@@ -138,6 +138,6 @@ module _ (rows columns : ℕ) (p : List ℕ) (k : ℕ) (t : List ℕ) where
             (record {
               accepted = ((λ _. h), λ _. refl);
               lists = λ _. rw (ap (λ (v : TableSeen). v .table) (call ∙ e))
-                  (solutions-listed asked (frontier-proper (neighbours rows columns) p asked (mem-at bs k noBlock (h .there))) t (h .room));
+                  (solutions-listed asked (frontier-proper (neighbours edgeless rows columns) p asked (mem-at bs k noBlock (h .there))) t (h .room));
               table-kept = λ some. absurd (some refl);
             })

@@ -4,7 +4,7 @@
 -- the solutions and g the groups. Assumes nothing.
 use mathlib.Core.Path.{_≡_}
 use mathlib.Core.Logic.{_≢_, _↔_}
-use mathlib.Core.Bool.{true}
+use mathlib.Core.Bool.{Bool, true}
 use mathlib.Core.List.{List, [], map}
 use Prim.Native.Nat.{ℕ, _*_, _≤_, _<_}
 use lib.ListN.{length, getD}
@@ -20,17 +20,17 @@ use Rattle.search.specs.TableRows.{SolutionRow, readAt, inOrder}
 use Rattle.tables.specs.Tables.{rowAt}
 
 -- the block asked for: the one with this number in the position's frontier
-abbrev pub askedBlock : ℕ → ℕ → List ℕ → ℕ → Block
-askedBlock rows columns p k = getD (frontier (neighbours rows columns) p) k (record { cells = []; equations = [] })
+abbrev pub askedBlock : Bool → ℕ → ℕ → List ℕ → ℕ → Block
+askedBlock edgeless rows columns p k = getD (frontier (neighbours edgeless rows columns) p) k (record { cells = []; equations = [] })
 
 -- what nothing is refused for
-pub record Accepts (rows columns : ℕ) (p : List ℕ) (k : ℕ) (t : List ℕ) : Type 0 where
+pub record Accepts (edgeless : Bool) (rows columns : ℕ) (p : List ℕ) (k : ℕ) (t : List ℕ) : Type 0 where
   -- refusals 1 to 3: size, length and cells are as they should be
   pub tests : positionTested rows columns p ≡ test.Accepted
   -- 8: the block asked for is below the block count
-  pub there : k < length (frontier (neighbours rows columns) p)
+  pub there : k < length (frontier (neighbours edgeless rows columns) p)
   -- 9: solutions × groups is within the lent table's length
-  pub room : length (solutions (askedBlock rows columns p k)) * length (firsts (askedBlock rows columns p k)) ≤ length t
+  pub room : length (solutions (askedBlock edgeless rows columns p k)) * length (firsts (askedBlock edgeless rows columns p k)) ≤ length t
 
 -- the table of a block
 pub record ListedTable (b : Block) (t t′ : List ℕ) (n g : ℕ) : Type 0 where
@@ -52,10 +52,10 @@ pub record ListedTable (b : Block) (t t′ : List ℕ) (n g : ℕ) : Type 0 wher
   pub kept : (i : ℕ) → n * g ≤ i → getD t′ i 0 ≡ getD t i 0
 
 -- all that holds of a call, on a board of so many rows and columns
-pub record TableCall (rows columns : ℕ) (p : List ℕ) (k : ℕ) (t : List ℕ) (number n g : ℕ) (t′ : List ℕ) : Type 0 where
+pub record TableCall (edgeless : Bool) (rows columns : ℕ) (p : List ℕ) (k : ℕ) (t : List ℕ) (number n g : ℕ) (t′ : List ℕ) : Type 0 where
   -- it is accepted exactly when there is nothing to refuse it for
-  pub accepted : (number ≡ 0) ↔ Accepts rows columns p k t
+  pub accepted : (number ≡ 0) ↔ Accepts edgeless rows columns p k t
   -- an accepted call lists the solutions of the block asked for
-  pub lists : number ≡ 0 → ListedTable (askedBlock rows columns p k) t t′ n g
+  pub lists : number ≡ 0 → ListedTable (askedBlock edgeless rows columns p k) t t′ n g
   -- a refused call leaves the table untouched
   pub table-kept : number ≢ 0 → t′ ≡ t

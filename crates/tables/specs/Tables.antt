@@ -1,6 +1,6 @@
 -- cal_all_solution as a call on a position (SPECIFICATION 11, and refusals 8 and 9 of 3.1): the table of one block of the fresh frontier. Its rows stand at the
 -- front of the lent table, one after another, a byte for each group; the bytes past the last row keep their values, and a refusal leaves all. Assumes nothing.
-use mathlib.Core.Bool.{cond}
+use mathlib.Core.Bool.{Bool, cond}
 use mathlib.Core.List.{List, [], _∷_}
 use Prim.Native.Nat.{ℕ, _*_}
 use lib.Dec.{leb, ltb}
@@ -70,5 +70,5 @@ abbrev pub afterTests : Tested → TableSeen → List ℕ → TableSeen
 afterTests test.Accepted w t = w
 afterTests (test.Refused r) w t = refused r t
 
-unfoldable pub calAllSolution : ℕ → ℕ → List ℕ → ℕ → List ℕ → TableSeen
-calAllSolution rows columns p n t = afterTests (positionTested rows columns p) (blockAsked (frontier (neighbours rows columns) p) n t) t
+unfoldable pub calAllSolution : Bool → ℕ → ℕ → List ℕ → ℕ → List ℕ → TableSeen
+calAllSolution edgeless rows columns p n t = afterTests (positionTested rows columns p) (blockAsked (frontier (neighbours edgeless rows columns) p) n t) t

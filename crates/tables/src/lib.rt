@@ -127,18 +127,19 @@ fn put_asked(set: BlockSet, block: usize, table: &mut [u8]) -> TableAnswer
 
 // cal_all_solution on a position: refusals 1 to 3, then 8, then 9.
 pub fn cal_all_solution(
+    edgeless: bool,
     rows: usize,
     columns: usize,
     position: &[u8],
     block: usize,
     table: &mut [u8],
 ) -> TableAnswer
-    ensures { λ r. ⌜ tableSeen r (now (table .exit)) ≡ calAllSolution rows columns (now (position .entry)) block (now (table .entry)) ⌝ }
-    ensures listed { λ r. ⌜ TableCall rows columns (now (position .entry)) block (now (table .entry))
+    ensures { λ r. ⌜ tableSeen r (now (table .exit)) ≡ calAllSolution edgeless rows columns (now (position .entry)) block (now (table .entry)) ⌝ }
+    ensures listed { λ r. ⌜ TableCall edgeless rows columns (now (position .entry)) block (now (table .entry))
         (tableNumber r) (tableSolutions r) (tableGroups r) (now (table .exit)) ⌝ }
 {
     match test_position(rows, columns, position) {
         Tested::Refused(refusal) => TableAnswer::Refused(refusal),
-        Tested::Accepted => put_asked(read_blocks(rows, columns, position), block, table),
+        Tested::Accepted => put_asked(read_blocks(edgeless, rows, columns, position), block, table),
     }
 }

@@ -2,6 +2,7 @@
 -- mine has 0 of both; else they are those of the passes. Rests on `rounds-cells` and `grade-bound` of the crate fitting. Assumes nothing.
 use mathlib.Core.Path.{_≡_, refl, ap}
 use mathlib.Core.Logic.{inl, inr}
+use mathlib.Core.Bool.{Bool}
 use mathlib.Core.List.{List}
 use Prim.Native.Nat.{ℕ, _≤_, _<_}
 use native.Mathlib.Omega.{arith}
@@ -48,48 +49,48 @@ module _ (near : ℕ → List ℕ) (b : List ℕ) (s : ℕ) where
       go (inl e) = rw e (omega arith)
       go (inr e) = rw e (grade-bound near b (threeRules near) s 3 (λ p _. three-grades near p))
 
-judged-rounds : (rows columns : ℕ) (b : List ℕ) (s : ℕ) → AcceptedBoard (neighbours rows columns) b → s < length b
-    → verdictRounds (judgedFrom (neighbours rows columns) b s .answer) ≤ length b
+judged-rounds : (edgeless : Bool) (rows columns : ℕ) (b : List ℕ) (s : ℕ) → AcceptedBoard (neighbours edgeless rows columns) b → s < length b
+    → verdictRounds (judgedFrom (neighbours edgeless rows columns) b s .answer) ≤ length b
 unfolding judgedFrom
-judged-rounds rows columns b s ok l = go (decided (eqb (cellOf b s) 255))
+judged-rounds edgeless rows columns b s ok l = go (decided (eqb (cellOf b s) 255))
   where
-    go : Decided (eqb (cellOf b s) 255) → verdictRounds (judgedFrom (neighbours rows columns) b s .answer) ≤ length b
+    go : Decided (eqb (cellOf b s) 255) → verdictRounds (judgedFrom (neighbours edgeless rows columns) b s .answer) ≤ length b
     go (inl e) = rw e (omega arith)
     go (inr e) =
         rw e
-        (rounds-cells (neighbours rows columns) b (threeRules (neighbours rows columns)) s ok l (eqb-false (cellOf b s) 255 e) (board-rules-sound rows columns b))
+        (rounds-cells (neighbours edgeless rows columns) b (threeRules (neighbours edgeless rows columns)) s ok l (eqb-false (cellOf b s) 255 e) (board-rules-sound edgeless rows columns b))
 
 -- ---- of the call
 
-module _ (rows columns row column : ℕ) (b shown : List ℕ) where
+module _ (edgeless : Bool) (rows columns row column : ℕ) (b shown : List ℕ) where
   abbrev tests : Tested
-  tests = boardTested rows columns row column b (length shown)
+  tests = boardTested edgeless rows columns row column b (length shown)
 
   abbrev judged : VerdictSeen
-  judged = judgedFrom (neighbours rows columns) b (startCell columns row column b)
+  judged = judgedFrom (neighbours edgeless rows columns) b (startCell columns row column b)
 
   -- the grade is at most 3
-  pub grade-at-most-three : verdictGrade (isSolvable rows columns row column b shown .answer) ≤ 3
+  pub grade-at-most-three : verdictGrade (isSolvable edgeless rows columns row column b shown .answer) ≤ 3
   unfolding isSolvable
   grade-at-most-three = go tests
     where
       go : (t : Tested) → verdictGrade (afterTests t judged shown .answer) ≤ 3
-      go Accepted = judged-grade (neighbours rows columns) b (startCell columns row column b)
+      go Accepted = judged-grade (neighbours edgeless rows columns) b (startCell columns row column b)
       go (TestRefused x) = omega arith
 
   -- rounds never exceed the cells
-  pub rounds-at-most-cells : verdictRounds (isSolvable rows columns row column b shown .answer) ≤ length b
+  pub rounds-at-most-cells : verdictRounds (isSolvable edgeless rows columns row column b shown .answer) ≤ length b
   unfolding isSolvable
   rounds-at-most-cells = go tests refl
     where
       go : (t : Tested) → tests ≡ t → verdictRounds (afterTests t judged shown .answer) ≤ length b
       go Accepted e =
-          judged-rounds rows columns b (startCell columns row column b) (tested-accepted rows columns row column b (length shown) e)
-          (accepted-board rows columns row column b (length shown) e .start-within)
+          judged-rounds edgeless rows columns b (startCell columns row column b) (tested-accepted edgeless rows columns row column b (length shown) e)
+          (accepted-board edgeless rows columns row column b (length shown) e .start-within)
       go (TestRefused x) e = omega arith
 
   -- so of an answer that is the definition's
-  pub answer-bounds : (r : Verdict) (after : List ℕ) → verdictSeen r after ≡ isSolvable rows columns row column b shown → (verdictRounds r ≤ length b) × (verdictGrade r ≤ 3)
+  pub answer-bounds : (r : Verdict) (after : List ℕ) → verdictSeen r after ≡ isSolvable edgeless rows columns row column b shown → (verdictRounds r ≤ length b) × (verdictGrade r ≤ 3)
   answer-bounds r after e =
-      let same : r ≡ isSolvable rows columns row column b shown .answer = ap (λ (w : VerdictSeen). w .answer) e in
+      let same : r ≡ isSolvable edgeless rows columns row column b shown .answer = ap (λ (w : VerdictSeen). w .answer) e in
       (rw same rounds-at-most-cells, rw same grade-at-most-three)

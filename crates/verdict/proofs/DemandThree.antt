@@ -3,6 +3,7 @@
 -- crate solutions. Assumes nothing.
 use mathlib.Core.Path.{_≡_, refl, ap, _∙_}
 use mathlib.Core.Logic.{_≢_}
+use mathlib.Core.Bool.{Bool}
 use mathlib.Core.List.{List}
 use Prim.Native.Nat.{ℕ}
 use lib.ListN.{length}
@@ -31,46 +32,46 @@ pub refusal-never-meets : {P : Type 0} {near : ℕ → List ℕ} {b : List ℕ} 
     → MeetsDemand3 near b s v shown → P
 refusal-never-meets {r = r} is (answered, _) = absurd (eqb-false (refusalNumber r) 0 (refusal-not-zero r) (rw is at answered))
 
-module _ (rows columns row column : ℕ) (b shown : List ℕ) where
+module _ (edgeless : Bool) (rows columns row column : ℕ) (b shown : List ℕ) where
   -- the cell that the start means
   abbrev start : ℕ
   start = startCell columns row column b
 
   abbrev passed : Ending
-  passed = judge (neighbours rows columns) b (threeRules (neighbours rows columns)) start
+  passed = judge (neighbours edgeless rows columns) b (threeRules (neighbours edgeless rows columns)) start
 
   -- the tests refuse: the answer is their refusal, and the picture stays as it was
-  module _ (x : Refusal) (tests : boardTested rows columns row column b (length shown) ≡ TestRefused x) where
-    pub tests-refuse : verdictSeen (Refused x) shown ≡ isSolvable rows columns row column b shown
+  module _ (x : Refusal) (tests : boardTested edgeless rows columns row column b (length shown) ≡ TestRefused x) where
+    pub tests-refuse : verdictSeen (Refused x) shown ≡ isSolvable edgeless rows columns row column b shown
     unfolding isSolvable
     tests-refuse = rw tests
 
     -- demand 3 is asked of accepted boards only
-    pub refusal-demand-3 : {P : Type 0} → boardTested rows columns row column b (length shown) ≡ Accepted → P
-    refusal-demand-3 accepted = not-both (boardTested rows columns row column b (length shown)) x accepted tests
+    pub refusal-demand-3 : {P : Type 0} → boardTested edgeless rows columns row column b (length shown) ≡ Accepted → P
+    refusal-demand-3 accepted = not-both (boardTested edgeless rows columns row column b (length shown)) x accepted tests
 
-  module _ (tests : boardTested rows columns row column b (length shown) ≡ Accepted) where
+  module _ (tests : boardTested edgeless rows columns row column b (length shown) ≡ Accepted) where
     -- the tests accept: the verdict is that from the start's cell
-    pub tests-accept : isSolvable rows columns row column b shown ≡ judgedFrom (neighbours rows columns) b (startCell columns row column b)
+    pub tests-accept : isSolvable edgeless rows columns row column b shown ≡ judgedFrom (neighbours edgeless rows columns) b (startCell columns row column b)
     unfolding isSolvable
     tests-accept = rw tests
 
     module _ (safe : cellOf b (startCell columns row column b) ≢ 255) where
       -- and with a safe start it is the end of the passes
-      pub passes-seen : isSolvable rows columns row column b shown
-          ≡ endSeen (judge (neighbours rows columns) b (threeRules (neighbours rows columns)) (startCell columns row column b))
+      pub passes-seen : isSolvable edgeless rows columns row column b shown
+          ≡ endSeen (judge (neighbours edgeless rows columns) b (threeRules (neighbours edgeless rows columns)) (startCell columns row column b))
       unfolding judgedFrom
       passes-seen = tests-accept ∙ rw (ne-eqb (cellOf b start) 255 safe)
 
-      passes-demand-3 : Demand3 (neighbours rows columns) b start (passed .yes) (opened (passed .position)) (picture (passed .position))
+      passes-demand-3 : Demand3 (neighbours edgeless rows columns) b start (passed .yes) (opened (passed .position)) (picture (passed .position))
       passes-demand-3 =
-          judge-demand-3 (neighbours rows columns) b (threeRules (neighbours rows columns)) start (tested-accepted rows columns row column b (length shown) tests)
-          (accepted-board rows columns row column b (length shown) tests .start-within) safe
-          (board-rules-sound rows columns b) (board-rules-complete rows columns b)
+          judge-demand-3 (neighbours edgeless rows columns) b (threeRules (neighbours edgeless rows columns)) start (tested-accepted edgeless rows columns row column b (length shown) tests)
+          (accepted-board edgeless rows columns row column b (length shown) tests .start-within) safe
+          (board-rules-sound edgeless rows columns b) (board-rules-complete edgeless rows columns b)
 
       -- demand 3 of an answer that is the definition's
-      pub answer-demand-3 : (r : Verdict) (after : List ℕ) → verdictSeen r after ≡ isSolvable rows columns row column b shown
-          → MeetsDemand3 (neighbours rows columns) b (startCell columns row column b) r after
+      pub answer-demand-3 : (r : Verdict) (after : List ℕ) → verdictSeen r after ≡ isSolvable edgeless rows columns row column b shown
+          → MeetsDemand3 (neighbours edgeless rows columns) b (startCell columns row column b) r after
       answer-demand-3 r after e =
           let told = e ∙ passes-seen in
           rw (ap (λ (w : VerdictSeen). w .answer) told, ap (λ (w : VerdictSeen). w .shown) told) (refl, rw (bit-is-one (passed .yes)) passes-demand-3)

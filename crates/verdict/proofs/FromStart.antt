@@ -3,7 +3,7 @@
 -- caller sees. Assumes nothing.
 use mathlib.Core.Path.{_≡_, refl, sym, ap, _∙_}
 use mathlib.Core.Logic.{_≢_}
-use mathlib.Core.Bool.{true, false, _&&_}
+use mathlib.Core.Bool.{Bool, true, false, _&&_}
 use mathlib.Core.List.{List, [], _∷_}
 use Prim.Native.Nat.{ℕ, zero, suc, _*_, _≤_, _<_}
 use native.Mathlib.Omega.{arith}
@@ -69,36 +69,37 @@ module _ {rows columns : ℕ} {b : List ℕ} (board : Board b rows columns) (s :
     pub closed-all : closed ≡ replicate (length b) 10
     closed-all = is ∙ ap (λ (n : ℕ). replicate n 10) (whole .whole ∙ sym (board .whole))
 
+module _ (edgeless : Bool) {rows columns : ℕ} {b : List ℕ} (board : Board b rows columns) (s : ℕ) (l : s < length b) where
   -- the start is a mine: nothing is open
   pub start-mine : cellOf b s ≡ 255 → {closed : List ℕ} → closed ≡ replicate (length b) 10 → {n : ℕ} {shown : List ℕ} → n ≡ opened closed → shown ≡ picture closed
-      → verdictSeen (Judged false n 0 0) shown ≡ judgedFrom (neighbours rows columns) b s
+      → verdictSeen (Judged false n 0 0) shown ≡ judgedFrom (neighbours edgeless rows columns) b s
   unfolding judgedFrom
   start-mine e is count shows = rw (count, shows, is, none-open (length b), none-shown (length b), eq-eqb (cellOf b s) 255 e)
 
   -- the start is safe
   module _ (safe : cellOf b s ≢ 255) where
     -- it is opened, and that is where the passes begin
-    module _ (ok : Accepted (neighbours rows columns) b) {closed : List ℕ} (is : closed ≡ replicate (length b) 10)
-        {first : List ℕ} (opens : first ≡ openCells (neighbours rows columns) b closed (s ∷ [])) where
-      pub first-begins : first ≡ beginning (neighbours rows columns) b s
+    module _ (ok : Accepted (neighbours edgeless rows columns) b) {closed : List ℕ} (is : closed ≡ replicate (length b) 10)
+        {first : List ℕ} (opens : first ≡ openCells (neighbours edgeless rows columns) b closed (s ∷ [])) where
+      pub first-begins : first ≡ beginning (neighbours edgeless rows columns) b s
       first-begins = opens ∙ rw is
 
-      pub first-own : Fits (neighbours rows columns) first (own b)
-      first-own = rw first-begins (begin-own (neighbours rows columns) b s ok l safe)
+      pub first-own : Fits (neighbours edgeless rows columns) first (own b)
+      first-own = rw first-begins (begin-own (neighbours edgeless rows columns) b s ok l safe)
 
       pub first-board : Board first rows columns
-      first-board = record { sized = board .sized; whole = fit-length (neighbours rows columns) b first first-own ∙ board .whole }
+      first-board = record { sized = board .sized; whole = fit-length (neighbours edgeless rows columns) b first first-own ∙ board .whole }
 
-      pub first-passes : judge (neighbours rows columns) b (threeRules (neighbours rows columns)) s
-          ≡ passes (neighbours rows columns) b (threeRules (neighbours rows columns)) (length b) first 0 0
+      pub first-passes : judge (neighbours edgeless rows columns) b (threeRules (neighbours edgeless rows columns)) s
+          ≡ passes (neighbours edgeless rows columns) b (threeRules (neighbours edgeless rows columns)) (length b) first 0 0
       unfolding judge
       first-passes = rw first-begins
 
     -- and what is seen is the end of the passes
     pub passes-told : {e : Ending} {last : List ℕ}
-        → e ≡ endOf (judge (neighbours rows columns) b (threeRules (neighbours rows columns)) s)
-        → last ≡ judge (neighbours rows columns) b (threeRules (neighbours rows columns)) s .position
+        → e ≡ endOf (judge (neighbours edgeless rows columns) b (threeRules (neighbours edgeless rows columns)) s)
+        → last ≡ judge (neighbours edgeless rows columns) b (threeRules (neighbours edgeless rows columns)) s .position
         → {n : ℕ} {shown : List ℕ} → n ≡ opened last → shown ≡ picture last
-        → verdictSeen (Judged (e .yes) n (e .grade) (e .rounds)) shown ≡ judgedFrom (neighbours rows columns) b s
+        → verdictSeen (Judged (e .yes) n (e .grade) (e .rounds)) shown ≡ judgedFrom (neighbours edgeless rows columns) b s
     unfolding judgedFrom
     passes-told ends at count shows = rw (ne-eqb (cellOf b s) 255 safe, count, shows, at, ends)

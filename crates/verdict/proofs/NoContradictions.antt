@@ -2,13 +2,13 @@
 -- `begin-own` and `pass-own` of the crate fitting and on the soundness of the rules. Assumes nothing.
 use mathlib.Core.Path.{_≡_}
 use mathlib.Core.Logic.{_≢_}
-use mathlib.Core.Bool.{false}
+use mathlib.Core.Bool.{Bool, false}
 use mathlib.Core.List.{List}
 use Prim.Native.Nat.{ℕ, _<_}
 use lib.ListN.{length}
 use Rattle.grid.specs.Cells.{cellOf}
 use Rattle.grid.specs.Window.{neighbours}
-use Rattle.grid.proofs.Neighbours.{neighbours-nodup}
+use Rattle.grid.proofs.Neighbours.{neighbours-nodup, neighbours-few}
 use Rattle.refusals.specs.declared.Tested.the-variants.{Accepted}
 use Rattle.refusals.specs.Tests.{boardTested, startCell}
 use Rattle.refusals.proofs.Accepted.{accepted-board}
@@ -26,7 +26,7 @@ use Rattle.subtraction.specs.Minus.{subtraction}
 use Rattle.subtraction.proofs.Soundness.{subtraction-sound-at}
 use Rattle.solutions.specs.Enumeration.{enumerated}
 use Rattle.solutions.specs.ThreeRules.{threeRules}
-use Rattle.solutions.proofs.BoardRules.{neighbours-few-everywhere, board-rules-sound}
+use Rattle.solutions.proofs.BoardRules.{board-rules-sound}
 use Rattle.solutions.proofs.Completeness.{enumeration-sound-at}
 
 -- the positions that the passes from the start s come to
@@ -52,17 +52,17 @@ pub record NoContradiction (near : ℕ → List ℕ) (p : List ℕ) : Type 0 whe
   pub by-subtraction : subtraction (frontier near p) .contradiction ≡ false
   pub by-enumeration : enumerated (frontier near p) .contradiction ≡ false
 
-module _ (rows columns row column : ℕ) (b : List ℕ) (n : ℕ) (tests : boardTested rows columns row column b n ≡ Accepted)
+module _ (edgeless : Bool) (rows columns row column : ℕ) (b : List ℕ) (n : ℕ) (tests : boardTested edgeless rows columns row column b n ≡ Accepted)
     (safe : cellOf b (startCell columns row column b) ≢ 255) where
   pub no-rule-refuses : {p : List ℕ}
-      → OnTheWay (neighbours rows columns) b (threeRules (neighbours rows columns)) (startCell columns row column b) p
-      → NoContradiction (neighbours rows columns) p
+      → OnTheWay (neighbours edgeless rows columns) b (threeRules (neighbours edgeless rows columns)) (startCell columns row column b) p
+      → NoContradiction (neighbours edgeless rows columns) p
   no-rule-refuses {p} way =
-      let near = neighbours rows columns in
-      let once = neighbours-nodup rows columns in
-      let few = neighbours-few-everywhere rows columns in
-      let fit = own-on-the-way near b (threeRules near) (startCell columns row column b) (tested-accepted rows columns row column b n tests)
-      (accepted-board rows columns row column b n tests .start-within) safe (board-rules-sound rows columns b) way in
+      let near = neighbours edgeless rows columns in
+      let once = neighbours-nodup edgeless rows columns in
+      let few = neighbours-few edgeless rows columns in
+      let fit = own-on-the-way near b (threeRules near) (startCell columns row column b) (tested-accepted edgeless rows columns row column b n tests)
+      (accepted-board edgeless rows columns row column b n tests .start-within) safe (board-rules-sound edgeless rows columns b) way in
       record {
         by-direct = direct-sound-at near once few p .no-contradiction (own b) fit;
         by-subtraction = subtraction-sound-at near once few p .no-contradiction (own b) fit;

@@ -2,18 +2,19 @@
 -- gave, in the struct's order, and that leads on as the definition's pass does. Rests on Underway and FoundCells. Assumes nothing.
 use mathlib.Core.Path.{_≡_, _∙_}
 use mathlib.Core.Logic.{_≢_}
-use mathlib.Core.Bool.{false}
+use mathlib.Core.Bool.{Bool, false}
 use mathlib.Core.List.{List}
 use Prim.Native.Nat.{ℕ, _+_, _*_, _<_, max}
 use native.Mathlib.Omega.{arith}
 use lib.ListN.{length, take}
 use Rattle.grid.specs.Window.{neighbours, Board}
+use Rattle.grid.proofs.Neighbours.{neighbours-few}
 use Rattle.refusals.proofs.Accepted.{few-cells}
 use Rattle.fitting.specs.Boards.{Accepted}
 use Rattle.fitting.specs.Passes.{openCells, markMines, allOpen, ending, passes}
 use Rattle.fitting.proofs.Own.{fit-length}
 use Rattle.solutions.specs.ThreeRules.{threeRules}
-use Rattle.solutions.proofs.BoardRules.{neighbours-few-everywhere, board-rules-sound}
+use Rattle.solutions.proofs.BoardRules.{board-rules-sound}
 use Rattle.verdict.specs.Findings.{Finds}
 use Rattle.verdict.specs.declared.finding.Finding.{Finding}
 use Rattle.verdict.proofs.SamePass.{marks-length}
@@ -21,14 +22,14 @@ use Rattle.verdict.proofs.FoundCells.{finds-nothing, finds-cell, finds-
 use Rattle.verdict.proofs.Underway.{Underway, ends-stuck, underway-next}
 
 -- k passes of the three rules lead from p₀ to p
-abbrev pub OnBoard : ℕ → ℕ → List ℕ → List ℕ → ℕ → List ℕ → ℕ → ℕ → Type 0
-OnBoard rows columns b = Underway (neighbours rows columns) b (threeRules (neighbours rows columns)) (length b)
+abbrev pub OnBoard : Bool → ℕ → ℕ → List ℕ → List ℕ → ℕ → List ℕ → ℕ → ℕ → Type 0
+OnBoard edgeless rows columns b = Underway (neighbours edgeless rows columns) b (threeRules (neighbours edgeless rows columns)) (length b)
 
-module _ {rows columns : ℕ} {b : List ℕ} (board : Board b rows columns) {p₀ : List ℕ} {k : ℕ} {p : List ℕ} {grade rounds : ℕ}
-    (u : OnBoard rows columns b p₀ k p grade rounds) where
+module _ (edgeless : Bool) {rows columns : ℕ} {b : List ℕ} (board : Board b rows columns) {p₀ : List ℕ} {k : ℕ} {p : List ℕ} {grade rounds : ℕ}
+    (u : OnBoard edgeless rows columns b p₀ k p grade rounds) where
   -- the position has the board's cells
   pub same-cells : length p ≡ length b
-  same-cells = fit-length (neighbours rows columns) b p (u .own-fits)
+  same-cells = fit-length (neighbours edgeless rows columns) b p (u .own-fits)
 
   pub position-board : Board p rows columns
   position-board = record { sized = board .sized; whole = same-cells ∙ board .whole }
@@ -42,19 +43,19 @@ module _ {rows columns : ℕ} {b : List ℕ} (board : Board b rows columns) {p�
   few-rounds before = omega (arith, u .counted, board .whole, few-cells (board .sized))
 
   -- before the last pass, with a safe cell that isn't open
-  module _ (before : k < length b) (shut : allOpen b p ≡ false) (r : Finding) (found : Finds (rows * columns) (threeRules (neighbours rows columns) p) r) where
+  module _ (before : k < length b) (shut : allOpen b p ≡ false) (r : Finding) (found : Finds (rows * columns) (threeRules (neighbours edgeless rows columns) p) r) where
     -- the rules found nothing
     pub found-nothing : r .«safe_count» + r .«mine_count» ≡ 0
-        → passes (neighbours rows columns) b (threeRules (neighbours rows columns)) (length b) p₀ 0 0 ≡ ending false p grade rounds
-    found-nothing none = ends-stuck (neighbours rows columns) b (threeRules (neighbours rows columns)) u before shut (finds-nothing found none)
+        → passes (neighbours edgeless rows columns) b (threeRules (neighbours edgeless rows columns)) (length b) p₀ 0 0 ≡ ending false p grade rounds
+    found-nothing none = ends-stuck (neighbours edgeless rows columns) b (threeRules (neighbours edgeless rows columns)) u before shut (finds-nothing found none)
 
     -- the mines that they found are marked and the safe cells opened
-    pub found-cells : Accepted (neighbours rows columns) b → r .«safe_count» + r .«mine_count» ≢ 0
+    pub found-cells : Accepted (neighbours edgeless rows columns) b → r .«safe_count» + r .«mine_count» ≢ 0
         → (marked : List ℕ) → marked ≡ markMines p (take (r .«mine_count») (r .mines))
-        → (q : List ℕ) → q ≡ openCells (neighbours rows columns) b marked (take (r .«safe_count») (r .safe))
-        → (g : ℕ) → g ≡ max grade (r .grade) → OnBoard rows columns b p₀ (k + 1) q g (rounds + 1)
+        → (q : List ℕ) → q ≡ openCells (neighbours edgeless rows columns) b marked (take (r .«safe_count») (r .safe))
+        → (g : ℕ) → g ≡ max grade (r .grade) → OnBoard edgeless rows columns b p₀ (k + 1) q g (rounds + 1)
     found-cells ok some marked marks q opens g greatest =
-        let near = neighbours rows columns in
-        underway-next near b (threeRules near) u before shut ok (board-rules-sound rows columns b) (finds-cell found some)
-        q (opens ∙ rw marks (finds-pass found near b ok (λ c _. neighbours-few-everywhere rows columns c) p same-cells))
+        let near = neighbours edgeless rows columns in
+        underway-next near b (threeRules near) u before shut ok (board-rules-sound edgeless rows columns b) (finds-cell found some)
+        q (opens ∙ rw marks (finds-pass found near b ok (λ c _. neighbours-few edgeless rows columns c) p same-cells))
         g (greatest ∙ rw (found .same-grade))

@@ -19,7 +19,7 @@ use Rattle.lists.proofs.Arrays.{length-pad, pad-take}
 use Rattle.lists.proofs.Rearranged.{nodup-below}
 use Rattle.lists.proofs.Among.{Among}
 use Rattle.grid.specs.Window.{neighbours, Board}
-use Rattle.grid.proofs.Neighbours.{neighbours-nodup}
+use Rattle.grid.proofs.Neighbours.{neighbours-nodup, neighbours-few}
 use Rattle.refusals.proofs.Accepted.{few-cells}
 use Rattle.fitting.specs.Layouts.{Fits}
 use Rattle.fitting.specs.Passes.{nothing, orElse}
@@ -50,7 +50,6 @@ use Rattle.subtraction.proofs.Soundness.{subtraction-sound-at}
 use Rattle.subtraction.proofs.SweptLeft.{subtraction-mines-swept, subtraction-safe-swept}
 use Rattle.solutions.specs.Enumeration.{enumerated}
 use Rattle.solutions.specs.ThreeRules.{threeRules}
-use Rattle.solutions.proofs.BoardRules.{neighbours-few-everywhere}
 use Rattle.solutions.proofs.Completeness.{enumeration-sound-at}
 use Rattle.verdict.specs.Findings.{Finds, gradedFinding, foundCell, laterFinding}
 use Rattle.verdict.proofs.InPlaceAndEmpty.{SameNumbers, same-empty, empty-length}
@@ -135,46 +134,46 @@ module _ (near : ℕ → List ℕ) (p : List ℕ) (rule : List Block → Found) 
 
 -- ---- the three rules on a board
 
-module _ (rows columns : ℕ) (p : List ℕ) (board : Board p rows columns) where
+module _ (edgeless : Bool) (rows columns : ℕ) (p : List ℕ) (board : Board p rows columns) where
   abbrev near : ℕ → List ℕ
-  near = neighbours rows columns
+  near = neighbours edgeless rows columns
 
   few : rows * columns ≤ 1024
   few = few-cells (board .sized)
 
-  direct-sound : SoundAt (neighbours rows columns) p (direct (frontier (neighbours rows columns) p))
-  direct-sound = direct-sound-at near (neighbours-nodup rows columns) (neighbours-few-everywhere rows columns) p
+  direct-sound : SoundAt (neighbours edgeless rows columns) p (direct (frontier (neighbours edgeless rows columns) p))
+  direct-sound = direct-sound-at near (neighbours-nodup edgeless rows columns) (neighbours-few edgeless rows columns) p
 
-  subtraction-sound : SoundAt (neighbours rows columns) p (subtraction (frontier (neighbours rows columns) p))
-  subtraction-sound = subtraction-sound-at near (neighbours-nodup rows columns) (neighbours-few-everywhere rows columns) p
+  subtraction-sound : SoundAt (neighbours edgeless rows columns) p (subtraction (frontier (neighbours edgeless rows columns) p))
+  subtraction-sound = subtraction-sound-at near (neighbours-nodup edgeless rows columns) (neighbours-few edgeless rows columns) p
 
-  enumeration-sound : SoundAt (neighbours rows columns) p (enumerated (frontier (neighbours rows columns) p))
-  enumeration-sound = enumeration-sound-at near (neighbours-nodup rows columns) (neighbours-few-everywhere rows columns) p
+  enumeration-sound : SoundAt (neighbours edgeless rows columns) p (enumerated (frontier (neighbours edgeless rows columns) p))
+  enumeration-sound = enumeration-sound-at near (neighbours-nodup edgeless rows columns) (neighbours-few edgeless rows columns) p
 
   -- a sound rule's lists, on this board
-  board-finds : (rule : List Block → Found) (grade : ℕ) (r : Lists) → HoldsFound r (rule (frontier (neighbours rows columns) p))
-      → SoundAt (neighbours rows columns) p (rule (frontier (neighbours rows columns) p))
-      → Finds (rows * columns) (ruleOf (neighbours rows columns) rule grade p) (gradedFinding r grade)
+  board-finds : (rule : List Block → Found) (grade : ℕ) (r : Lists) → HoldsFound r (rule (frontier (neighbours edgeless rows columns) p))
+      → SoundAt (neighbours edgeless rows columns) p (rule (frontier (neighbours edgeless rows columns) p))
+      → Finds (rows * columns) (ruleOf (neighbours edgeless rows columns) rule grade p) (gradedFinding r grade)
   board-finds rule grade r held sound = graded-finds near p rule grade r held sound (rows * columns) (board .whole) few
 
   -- a layout fits
-  module _ (layout : List Bool) (fit : Fits (neighbours rows columns) p layout) where
+  module _ (layout : List Bool) (fit : Fits (neighbours edgeless rows columns) p layout) where
     -- the sweeps over the equations hold what the direct rule finds
-    direct-held : (d : Lists) → d ≡ sweptLists (plainEquations (neighbours rows columns) p) → HoldsFound d (direct (frontier (neighbours rows columns) p))
+    direct-held : (d : Lists) → d ≡ sweptLists (plainEquations (neighbours edgeless rows columns) p) → HoldsFound d (direct (frontier (neighbours edgeless rows columns) p))
     direct-held d is =
         let none = direct-sound .no-contradiction layout fit in
         record {
           safe = sureSafe (plainEquations near p);
           mines = sureMines (plainEquations near p);
           is = is;
-          same-safe = swept-safe near p (neighbours-nodup rows columns) none;
-          same-mines = swept-mines near p (neighbours-nodup rows columns) none;
+          same-safe = swept-safe near p (neighbours-nodup edgeless rows columns) none;
+          same-mines = swept-mines near p (neighbours-nodup edgeless rows columns) none;
           safe-once = sure-safe-once (plainEquations near p);
           mines-once = sure-mines-once (plainEquations near p);
         }
 
     -- subtraction's lists are what the rule finds
-    subtraction-held : (m : Lists) → m ≡ minusLists (frontier (neighbours rows columns) p) → HoldsFound m (subtraction (frontier (neighbours rows columns) p))
+    subtraction-held : (m : Lists) → m ≡ minusLists (frontier (neighbours edgeless rows columns) p) → HoldsFound m (subtraction (frontier (neighbours edgeless rows columns) p))
     subtraction-held m is =
         let bs = frontier near p in
         let none = sym (subtraction-contradiction bs) ∙ subtraction-sound .no-contradiction layout fit in
@@ -190,8 +189,8 @@ module _ (rows columns : ℕ) (p : List ℕ) (board : Board p rows columns) wher
         }
 
     -- and so are enumeration's
-    enumeration-held : (e : Lists) → e ≡ listsIn (ruleAnswer (enumerated (frontier (neighbours rows columns) p)))
-        → HoldsFound e (enumerated (frontier (neighbours rows columns) p))
+    enumeration-held : (e : Lists) → e ≡ listsIn (ruleAnswer (enumerated (frontier (neighbours edgeless rows columns) p)))
+        → HoldsFound e (enumerated (frontier (neighbours edgeless rows columns) p))
     unfolding ruleAnswer listsOf
     enumeration-held e is =
         let bs = frontier near p in
@@ -205,20 +204,20 @@ module _ (rows columns : ℕ) (p : List ℕ) (board : Board p rows columns) wher
           mines-once = listed-once near p (enumerated bs .mines) (enumeration-sound .mines-among);
         }
 
-    module _ (d : Lists) (direct-is : d ≡ sweptLists (plainEquations (neighbours rows columns) p)) where
+    module _ (d : Lists) (direct-is : d ≡ sweptLists (plainEquations (neighbours edgeless rows columns) p)) where
       -- direct found a cell
-      pub direct-finds : foundCell d ≡ true → Finds (rows * columns) (threeRules (neighbours rows columns) p) (gradedFinding d 1)
+      pub direct-finds : foundCell d ≡ true → Finds (rows * columns) (threeRules (neighbours edgeless rows columns) p) (gradedFinding d 1)
       unfolding orElse
       direct-finds h = rw (found-some near p direct 1 d (direct-held d direct-is) h) (board-finds direct 1 d (direct-held d direct-is) direct-sound)
 
       -- it found nothing: subtraction's lists where it found a cell, else enumeration's
-      pub later-finds : foundCell d ≡ false → (m e : Lists) → m ≡ minusLists (frontier (neighbours rows columns) p)
-          → e ≡ listsIn (ruleAnswer (enumerated (frontier (neighbours rows columns) p)))
-          → Finds (rows * columns) (threeRules (neighbours rows columns) p) (laterFinding m e)
+      pub later-finds : foundCell d ≡ false → (m e : Lists) → m ≡ minusLists (frontier (neighbours edgeless rows columns) p)
+          → e ≡ listsIn (ruleAnswer (enumerated (frontier (neighbours edgeless rows columns) p)))
+          → Finds (rows * columns) (threeRules (neighbours edgeless rows columns) p) (laterFinding m e)
       unfolding orElse laterFinding
       later-finds none m e subtraction-is enumeration-is = go (decided (foundCell m))
         where
-          go : Decided (foundCell m) → Finds (rows * columns) (threeRules (neighbours rows columns) p) (laterFinding m e)
+          go : Decided (foundCell m) → Finds (rows * columns) (threeRules (neighbours edgeless rows columns) p) (laterFinding m e)
           go (inl x) = rw (
             x,
             found-none near p direct 1 d (direct-held d direct-is) none,
@@ -232,26 +231,26 @@ module _ (rows columns : ℕ) (p : List ℕ) (board : Board p rows columns) wher
 
   -- ---- the equations as the code reads them
 
-  module _ (equations : Equations) (is : equations ≡ equationArrays (plainEquations (neighbours rows columns) p)) where
+  module _ (equations : Equations) (is : equations ≡ equationArrays (plainEquations (neighbours edgeless rows columns) p)) where
     -- are fit for the sweeps
     pub equations-fit : Slots (equations .slots) (equations .len)
     unfolding equationArrays
-    equations-fit = rw is (arrays-slots (plainEquations near p) (plain-small rows columns p board) (plain-few rows columns p board))
+    equations-fit = rw is (arrays-slots (plainEquations near p) (plain-small edgeless rows columns p board) (plain-few edgeless rows columns p board))
 
     -- and read as the position's
-    pub equations-read : equationsFrom (equations .slots) (equations .rests) 0 (equations .len) ≡ plainEquations (neighbours rows columns) p
+    pub equations-read : equationsFrom (equations .slots) (equations .rests) 0 (equations .len) ≡ plainEquations (neighbours edgeless rows columns) p
     unfolding equationArrays
-    equations-read = rw is (arrays-read (plainEquations near p) (plain-small rows columns p board) (plain-few rows columns p board))
+    equations-read = rw is (arrays-read (plainEquations near p) (plain-small edgeless rows columns p board) (plain-few edgeless rows columns p board))
 
   -- ---- the frontier as the code reads it
 
-  frontier-fits : Small (frontier (neighbours rows columns) p)
+  frontier-fits : Small (frontier (neighbours edgeless rows columns) p)
   frontier-fits =
-      frontier-small near p (neighbours-nodup rows columns) (λ c _. neighbours-few-everywhere rows columns c) (omega (arith, board .whole, few))
+      frontier-small near p (neighbours-nodup edgeless rows columns) (λ c _. neighbours-few edgeless rows columns c) (omega (arith, board .whole, few))
 
-  module _ (set : BlockSet) (is : set ≡ blockSet (frontier (neighbours rows columns) p)) where
+  module _ (set : BlockSet) (is : set ≡ blockSet (frontier (neighbours edgeless rows columns) p)) where
     -- reads as the frontier
-    pub read-as : blocksOf set ≡ frontier (neighbours rows columns) p
+    pub read-as : blocksOf set ≡ frontier (neighbours edgeless rows columns) p
     read-as = ap blocksOf is ∙ blocks-of-set (frontier near p) frontier-fits
 
     -- and is fit for the rules

@@ -74,14 +74,14 @@ fn find_in_blocks(set: BlockSet) -> Finding
 
 // What a pass finds. The direct rule needs the equations alone, and only where it finds nothing are the blocks read. A layout fits, so no rule
 // meets a contradiction, and none is asked for.
-pub fn find_cells(rows: usize, columns: usize, position: &[u8]) -> Finding
+pub fn find_cells(edgeless: bool, rows: usize, columns: usize, position: &[u8]) -> Finding
     requires { ⌜ Board (now position) rows columns ⌝ }
-    requires { ⌜ ((m : List Bool) × Fits (neighbours rows columns) (now position) m) ⌝ }
-    ensures { λ r. ⌜ Finds (rows * columns) (threeRules (neighbours rows columns) (now (position .entry))) r ⌝ }
+    requires { ⌜ ((m : List Bool) × Fits (neighbours edgeless rows columns) (now position) m) ⌝ }
+    ensures { λ r. ⌜ Finds (rows * columns) (threeRules (neighbours edgeless rows columns) (now (position .entry))) r ⌝ }
 {
-    let direct = direct_cells(read_equations(rows, columns, position));
+    let direct = direct_cells(read_equations(edgeless, rows, columns, position));
     if found_cell(direct) {
         return graded(direct, 1);
     }
-    find_in_blocks(read_blocks(rows, columns, position))
+    find_in_blocks(read_blocks(edgeless, rows, columns, position))
 }

@@ -54,6 +54,7 @@ fn close_marks(position: &mut [u8], picture: &mut [u8]) -> usize
 
 // The verdict of an accepted board from the cell that its start means. The position after the start stands in `first`, and the passes work in `position`.
 fn judge_from(
+    edgeless: bool,
     rows: usize,
     columns: usize,
     cells: &[u8],
@@ -63,31 +64,32 @@ fn judge_from(
     picture: &mut [u8],
 ) -> Verdict
     requires { ⌜ Board (now cells) rows columns × Board (now first) rows columns × Board (now position) rows columns × Board (now picture) rows columns ⌝ }
-    requires { ⌜ Accepted (neighbours rows columns) (now cells) ⌝ }
+    requires { ⌜ Accepted (neighbours edgeless rows columns) (now cells) ⌝ }
     requires { ⌜ start < length (now cells) ⌝ }
-    ensures { λ r. ⌜ verdictSeen r (now (picture .exit)) ≡ judgedFrom (neighbours rows columns) (now (cells .entry)) start ⌝ }
+    ensures { λ r. ⌜ verdictSeen r (now (picture .exit)) ≡ judgedFrom (neighbours edgeless rows columns) (now (cells .entry)) start ⌝ }
 {
     close_all(first);
     if cells[start] == 255 {
         let opened = close_marks(first, picture);
         return Verdict::Judged(false, opened, 0, 0);
     }
-    let end = run_passes(rows, columns, cells, start, first, position);
+    let end = run_passes(edgeless, rows, columns, cells, start, first, position);
     let opened = close_marks(position, picture);
     Verdict::Judged(end.yes, opened, end.grade, end.rounds)
 }
 
 // The same, with positions of its own.
-fn judge(rows: usize, columns: usize, cells: &[u8], start: usize, picture: &mut [u8]) -> Verdict
+fn judge(edgeless: bool, rows: usize, columns: usize, cells: &[u8], start: usize, picture: &mut [u8]) -> Verdict
     requires { ⌜ Board (now cells) rows columns × Board (now picture) rows columns ⌝ }
-    requires { ⌜ Accepted (neighbours rows columns) (now cells) ⌝ }
+    requires { ⌜ Accepted (neighbours edgeless rows columns) (now cells) ⌝ }
     requires { ⌜ start < length (now cells) ⌝ }
-    ensures { λ r. ⌜ verdictSeen r (now (picture .exit)) ≡ judgedFrom (neighbours rows columns) (now (cells .entry)) start ⌝ }
+    ensures { λ r. ⌜ verdictSeen r (now (picture .exit)) ≡ judgedFrom (neighbours edgeless rows columns) (now (cells .entry)) start ⌝ }
 {
     let mut first = [10u8; 1024];
     let mut position = [10u8; 1024];
     let n = cells.len();
     judge_from(
+        edgeless,
         rows,
         columns,
         cells,
@@ -100,6 +102,7 @@ fn judge(rows: usize, columns: usize, cells: &[u8], start: usize, picture: &mut 
 
 // is_solvable: refusals 1, 2, 3, 4, 5 and 7, then the verdict.
 pub fn is_solvable(
+    edgeless: bool,
     rows: usize,
     columns: usize,
     start_row: usize,
@@ -107,16 +110,16 @@ pub fn is_solvable(
     cells: &[u8],
     picture: &mut [u8],
 ) -> Verdict
-    ensures { λ r. ⌜ verdictSeen r (now (picture .exit)) ≡ isSolvable rows columns «start_row» «start_column» (now (cells .entry)) (now (picture .entry)) ⌝ }
-    ensures { λ r. ⌜ (boardTested rows columns «start_row» «start_column» (now (cells .entry)) (length (now (picture .entry))) ≡ TestAccepted
+    ensures { λ r. ⌜ verdictSeen r (now (picture .exit)) ≡ isSolvable edgeless rows columns «start_row» «start_column» (now (cells .entry)) (now (picture .entry)) ⌝ }
+    ensures { λ r. ⌜ (boardTested edgeless rows columns «start_row» «start_column» (now (cells .entry)) (length (now (picture .entry))) ≡ TestAccepted
         → cellOf (now (cells .entry)) (startCell columns «start_row» «start_column» (now (cells .entry))) ≢ 255
-        → MeetsDemand3 (neighbours rows columns) (now (cells .entry)) (startCell columns «start_row» «start_column» (now (cells .entry))) r (now (picture .exit))) ⌝ }
+        → MeetsDemand3 (neighbours edgeless rows columns) (now (cells .entry)) (startCell columns «start_row» «start_column» (now (cells .entry))) r (now (picture .exit))) ⌝ }
 {
-    match test_board(rows, columns, start_row, start_column, cells, picture.len()) {
+    match test_board(edgeless, rows, columns, start_row, start_column, cells, picture.len()) {
         Tested::Refused(refusal) => Verdict::Refused(refusal),
         Tested::Accepted => {
             let start = start_cell(rows, columns, start_row, start_column, cells);
-            judge(rows, columns, cells, start, picture)
+            judge(edgeless, rows, columns, cells, start, picture)
         }
     }
 }

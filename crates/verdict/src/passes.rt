@@ -68,6 +68,7 @@ fn greater(a: usize, b: usize) -> usize
 
 // Opens the start in `first`, where all is closed; from there on at most as many passes as there are cells, in `position`.
 pub fn run_passes(
+    edgeless: bool,
     rows: usize,
     columns: usize,
     board: &[u8],
@@ -76,14 +77,14 @@ pub fn run_passes(
     position: &mut [u8],
 ) -> Ending
     requires { ⌜ Board (now board) rows columns × Board (now first) rows columns × Board (now position) rows columns ⌝ }
-    requires { ⌜ Accepted (neighbours rows columns) (now board) ⌝ }
+    requires { ⌜ Accepted (neighbours edgeless rows columns) (now board) ⌝ }
     requires { ⌜ (start < length (now board)) × (cellOf (now board) start ≢ 255) × (now first ≡ replicate (length (now board)) 10) ⌝ }
-    ensures { λ r. ⌜ r ≡ endOf (judge (neighbours rows columns) (now (board .entry)) (threeRules (neighbours rows columns)) start) ⌝ }
-    ensures { λ _. ⌜ now (position .exit) ≡ judge (neighbours rows columns) (now (board .entry)) (threeRules (neighbours rows columns)) start .position ⌝ }
+    ensures { λ r. ⌜ r ≡ endOf (judge (neighbours edgeless rows columns) (now (board .entry)) (threeRules (neighbours edgeless rows columns)) start) ⌝ }
+    ensures { λ _. ⌜ now (position .exit) ≡ judge (neighbours edgeless rows columns) (now (board .entry)) (threeRules (neighbours edgeless rows columns)) start .position ⌝ }
 {
     let mut list = [0u16; 1024];
     list[0] = start as u16;
-    refresh_board(rows, columns, board, first, &list, 1);
+    refresh_board(edgeless, rows, columns, board, first, &list, 1);
     copy_cells(first, position);
     let mut grade = 0;
     let mut rounds = 0;
@@ -96,7 +97,7 @@ pub fn run_passes(
                 rounds,
             };
         }
-        let found = find_cells(rows, columns, position);
+        let found = find_cells(edgeless, rows, columns, position);
         let safe = found.safe;
         let mines = found.mines;
         if found.safe_count + found.mine_count == 0 {
@@ -107,7 +108,7 @@ pub fn run_passes(
             };
         }
         mark_mines(position, &mines, found.mine_count);
-        refresh_board(rows, columns, board, position, &safe, found.safe_count);
+        refresh_board(edgeless, rows, columns, board, position, &safe, found.safe_count);
         grade = greater(grade, found.grade);
         rounds += 1;
     }

@@ -40,15 +40,15 @@ put-asked-requires : tie.Need-put-asked-requires
 put-asked-requires c κs =
     let read = c .before in
     let accepted = facts (read .before) in
-    (read-whole _ _ _ accepted _ (read .read-blocks .ensures), read-combinable _ _ _ accepted _ (read .read-blocks .ensures))
+    (read-whole _ _ _ _ accepted _ (read .read-blocks .ensures), read-combinable _ _ _ _ accepted _ (read .read-blocks .ensures))
 
 returns : tie.Need-returns
 returns c =
     let told = c .before .refusal .given in
     let tested = c .before .before .before in
     let a = tested .before .before .before .args in
-    let is = tests-refuse (a .rows) (a .columns) (a .position .now) (a .block) (a .table .now) (told .0 .0) (sym (tested .test-position .ensures) ∙ told .1) in
-    (is, table-call (a .rows) (a .columns) (a .position .now) (a .block) (a .table .now) _ _ is)
+    let is = tests-refuse (a .edgeless) (a .rows) (a .columns) (a .position .now) (a .block) (a .table .now) (told .0 .0) (sym (tested .test-position .ensures) ∙ told .1) in
+    (is, table-call (a .edgeless) (a .rows) (a .columns) (a .position .now) (a .block) (a .table .now) _ _ is)
 
 same-length : tie.Need-same-length
 same-length c = search needs
@@ -60,9 +60,9 @@ returns-2 c =
     let accepts = read .before in
     let a = accepts .before .before .before .before .before .args in
     let is = put .put-asked .ensures
-    ∙ ap (λ (bs : List Block). blockAsked bs (a .block) (a .table .now)) (read-frontier _ _ _ (facts accepts) _ (read .read-blocks .ensures))
-    ∙ tests-accept (a .rows) (a .columns) (a .position .now) (a .block) (a .table .now) (tests accepts) in
-    (is, table-call (a .rows) (a .columns) (a .position .now) (a .block) (a .table .now) _ _ is)
+    ∙ ap (λ (bs : List Block). blockAsked bs (a .block) (a .table .now)) (read-frontier _ _ _ _ (facts accepts) _ (read .read-blocks .ensures))
+    ∙ tests-accept (a .edgeless) (a .rows) (a .columns) (a .position .now) (a .block) (a .table .now) (tests accepts) in
+    (is, table-call (a .edgeless) (a .rows) (a .columns) (a .position .now) (a .block) (a .table .now) _ _ is)
 
 pub cal-all-solution-spec : {M : Type 1} → statement M
 cal-all-solution-spec =

@@ -23,14 +23,14 @@ enum-told c = search needs
 -- the tests accept
 tests : (c : tie.After-enum-told)
     → (let a = c .before .before .before .before .before .args in
-    boardTested (a .rows) (a .columns) (a .start-row) (a .start-column) (a .cells .now) (length (a .picture .now)) ≡ Accepted)
+    boardTested (a .edgeless) (a .rows) (a .columns) (a .start-row) (a .start-column) (a .cells .now) (length (a .picture .now)) ≡ Accepted)
 tests c = sym (c .before .before .test-board .ensures) ∙ c .enum-told .given .1
 
 -- so this is known of the input
 facts : (c : tie.After-enum-told)
     → (let a = c .before .before .before .before .before .args in
-    AcceptedBoard (a .rows) (a .columns) (a .start-row) (a .start-column) (a .cells .now) (length (a .picture .now)))
-facts c = accepted-board _ _ _ _ _ _ (tests c)
+    AcceptedBoard (a .edgeless) (a .rows) (a .columns) (a .start-row) (a .start-column) (a .cells .now) (length (a .picture .now)))
+facts c = accepted-board _ _ _ _ _ _ _ (tests c)
 
 start-cell-requires : tie.Need-start-cell-requires
 start-cell-requires c κs = (facts c .board .sized, facts c .start)
@@ -40,7 +40,7 @@ judge-requires c κs =
     let accepts = c .before .before in
     let accepted = facts accepts in (
       (accepted .board, record { sized = accepted .board .sized; whole = accepted .picture }),
-      (tested-accepted _ _ _ _ _ _ (tests accepts), rw (c .before .start-cell .ensures) (accepted .start-within)),
+      (tested-accepted _ _ _ _ _ _ _ (tests accepts), rw (c .before .start-cell .ensures) (accepted .start-within)),
     )
 
 returns : tie.Need-returns
@@ -49,8 +49,8 @@ returns c =
     let tested = c .before .before .before in
     let a = tested .before .before .before .args in
     let refuses = sym (tested .test-board .ensures) ∙ told .1 in (
-      tests-refuse _ _ _ _ _ (a .picture .now) (told .0 .0) refuses,
-      λ accepts _. refusal-demand-3 _ _ _ _ _ (a .picture .now) (told .0 .0) refuses accepts,
+      tests-refuse _ _ _ _ _ _ (a .picture .now) (told .0 .0) refuses,
+      λ accepts _. refusal-demand-3 _ _ _ _ _ _ (a .picture .now) (told .0 .0) refuses accepts,
     )
 
 same-length : tie.Need-same-length
@@ -63,9 +63,9 @@ returns-2 c =
     let accepts = started .before in
     let a = accepts .before .before .before .before .before .args in
     let seen = (rw (started .start-cell .ensures) at (judged .judge .ensures))
-    ∙ sym (tests-accept _ _ _ _ _ (a .picture .now) (tests accepts)) in (
+    ∙ sym (tests-accept _ _ _ _ _ _ (a .picture .now) (tests accepts)) in (
       seen,
-      λ accepted safe. answer-demand-3 _ _ _ _ _ (a .picture .now) accepted safe _ _ seen,
+      λ accepted safe. answer-demand-3 _ _ _ _ _ _ (a .picture .now) accepted safe _ _ seen,
     )
 
 pub is-solvable-spec : {M : Type 1} → statement M

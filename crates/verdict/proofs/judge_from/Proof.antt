@@ -31,7 +31,7 @@ returns c =
     let closed = tested .before .before .before .before in
     let s = closed .before .before .before .before .before .before in
     let all = closed-all (s .pre .0 .0) (s .args .start) (s .pre .1 .1) (s .pre .0 .1) (closed .close-all .ensures) in
-    start-mine (s .pre .0 .0) (s .args .start) (s .pre .1 .1) (tested .if1 .taken) all (counted .close-marks .ensures .0) (counted .close-marks .ensures .1)
+    start-mine _ (s .pre .0 .0) (s .args .start) (s .pre .1 .1) (tested .if1 .taken) all (counted .close-marks .ensures .0) (counted .close-marks .ensures .1)
 
 run-passes-requires : tie.Need-run-passes-requires
 run-passes-requires c κs =
@@ -62,7 +62,7 @@ returns-2 c =
     let ran = counted .before .before .before .before .before .before .before in
     let tested = ran .before .before .before in
     let s = tested .before .before .before .before .before .before .before .before .before .before in
-    passes-told (s .pre .0 .0) (s .args .start) (s .pre .1 .1) (tested .if1 .left) (ran .run-passes .ensures .0) (ran .run-passes .ensures .1)
+    passes-told _ (s .pre .0 .0) (s .args .start) (s .pre .1 .1) (tested .if1 .left) (ran .run-passes .ensures .0) (ran .run-passes .ensures .1)
     (counted .close-marks2 .ensures .0) (counted .close-marks2 .ensures .1)
 
 pub judge-from-spec : {M : Type 1} → statement M

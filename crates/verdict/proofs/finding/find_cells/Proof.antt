@@ -18,7 +18,7 @@ read-equations-requires : tie.Need-read-equations-requires
 read-equations-requires c κs = c .before .pre .0
 
 direct-cells-requires : tie.Need-direct-cells-requires
-direct-cells-requires c κs = equations-fit _ _ _ (c .before .before .pre .0) _ (c .read-equations .ensures)
+direct-cells-requires c κs = equations-fit _ _ _ _ (c .before .before .pre .0) _ (c .read-equations .ensures)
 
 -- from after the sweeps back to the beginning
 abbrev start : tie.After-direct-cells → tie.Start
@@ -26,8 +26,8 @@ start c = c .before .before .before
 
 -- the sweeps were over the position's equations
 swept : (c : tie.After-direct-cells)
-    → (let a = start c .args in c .direct-cells .result ≡ sweptLists (plainEquations (neighbours (a .rows) (a .columns)) (a .position .now)))
-swept c = c .direct-cells .ensures ∙ ap sweptLists (equations-read _ _ _ (start c .pre .0) _ (c .before .read-equations .ensures))
+    → (let a = start c .args in c .direct-cells .result ≡ sweptLists (plainEquations (neighbours (a .edgeless) (a .rows) (a .columns)) (a .position .now)))
+swept c = c .direct-cells .ensures ∙ ap sweptLists (equations-read _ _ _ _ (start c .pre .0) _ (c .before .read-equations .ensures))
 
 found-cell-requires : tie.Need-found-cell-requires
 found-cell-requires c κs = search needs
@@ -41,7 +41,7 @@ returns c =
     let d = asked .before in
     let s = start d in
     rw (c .graded .ensures)
-    (direct-finds _ _ _ (s .pre .0) (s .pre .1 .0) (s .pre .1 .1) _ (swept d) (sym (asked .found-cell .ensures) ∙ c .before .if1 .taken))
+    (direct-finds _ _ _ _ (s .pre .0) (s .pre .1 .0) (s .pre .1 .1) _ (swept d) (sym (asked .found-cell .ensures) ∙ c .before .if1 .taken))
 
 read-blocks-requires : tie.Need-read-blocks-requires
 read-blocks-requires c κs = start (c .before .before) .pre .0
@@ -49,9 +49,9 @@ read-blocks-requires c κs = start (c .before .before) .pre .0
 find-in-blocks-requires : tie.Need-find-in-blocks-requires
 find-in-blocks-requires c κs =
     let s = start (c .before .before .before) in
-    let is = read-as _ _ _ (s .pre .0) _ (c .read-blocks .ensures) in (
-      read-whole _ _ _ (s .pre .0) _ (c .read-blocks .ensures),
-      (read-ready _ _ _ (s .pre .0) _ (c .read-blocks .ensures), rw is (frontier-combinable _ _ _ (s .pre .0))),
+    let is = read-as _ _ _ _ (s .pre .0) _ (c .read-blocks .ensures) in (
+      read-whole _ _ _ _ (s .pre .0) _ (c .read-blocks .ensures),
+      (read-ready _ _ _ _ (s .pre .0) _ (c .read-blocks .ensures), rw is (frontier-combinable _ _ _ _ (s .pre .0))),
     )
 
 returns-2 : tie.Need-returns-2
@@ -60,9 +60,9 @@ returns-2 c =
     let asked = read .before .before in
     let d = asked .before in
     let s = start d in
-    let is = read-as _ _ _ (s .pre .0) _ (read .read-blocks .ensures) in
+    let is = read-as _ _ _ _ (s .pre .0) _ (read .read-blocks .ensures) in
     rw (c .find-in-blocks .ensures)
-    (later-finds _ _ _ (s .pre .0) (s .pre .1 .0) (s .pre .1 .1) _ (swept d) (sym (asked .found-cell .ensures) ∙ read .before .if1 .left) _ _
+    (later-finds _ _ _ _ (s .pre .0) (s .pre .1 .0) (s .pre .1 .1) _ (swept d) (sym (asked .found-cell .ensures) ∙ read .before .if1 .left) _ _
     (ap minusLists is) (ap (λ (bs : List Block). listsIn (ruleAnswer (enumerated bs))) is))
 
 pub find-cells-spec : {M : Type 1} → statement M

@@ -15,11 +15,11 @@ use Rattle.verdict.proofs.passes.run_passes.Statement.{statement}
 use Rattle.verdict.proofs.passes.run_passes.Tie as tie
 
 abbrev Inv-loop : tie.InvT-loop
-Inv-loop rows columns board start first position₀ grade₀ rounds₀ cells k₀ position grade rounds k =
-    OnBoard rows columns board first k position grade rounds
+Inv-loop edgeless rows columns board start first position₀ grade₀ rounds₀ cells k₀ position grade rounds k =
+    OnBoard edgeless rows columns board first k position grade rounds
 
 abbrev μ-loop : tie.MeasureT-loop
-μ-loop rows columns board start first position₀ grade₀ rounds₀ cells k₀ position grade rounds k = cells - k
+μ-loop edgeless rows columns board start first position₀ grade₀ rounds₀ cells k₀ position grade rounds k = cells - k
 
 -- from the loop back to where the start is opened, and to the call
 abbrev begun : tie.At-loop Inv-loop μ-loop → tie.After-refresh-board Inv-loop μ-loop
@@ -30,7 +30,7 @@ called c = begun c .before .before .before .before .before .before
 
 -- the position keeps its length
 as-long : (c : tie.At-loop Inv-loop μ-loop) → length (c .loop .position) ≡ length (called c .args .position .now)
-as-long c = let s = called c in position-board (s .pre .0 .0) (c .loop .inv) .whole ∙ sym (s .pre .0 .2 .whole)
+as-long c = let s = called c in position-board _ (s .pre .0 .0) (c .loop .inv) .whole ∙ sym (s .pre .0 .2 .whole)
 
 cast-list : tie.Need-cast-list Inv-loop μ-loop
 cast-list c = let s = c .before .before .before in omega (arith, start-small (s .pre .0 .0) (s .args .start) (s .pre .1 .1 .0))
@@ -48,22 +48,22 @@ copy-cells-requires c κs =
     let flooded = c .before .before .before .before in
     let s = flooded .before .before .before .before .before .before in
     let on = s .pre .1 .1 in
-    omega (arith, first-board (s .pre .0 .0) (s .args .start) (on .0) (on .1) (s .pre .1 .0) (on .2) (flooded .refresh-board .ensures) .whole, s .pre .0 .2 .whole)
+    omega (arith, first-board _ (s .pre .0 .0) (s .args .start) (on .0) (on .1) (s .pre .1 .0) (on .2) (flooded .refresh-board .ensures) .whole, s .pre .0 .2 .whole)
 
 loop-holds : tie.Need-loop-holds Inv-loop μ-loop
 loop-holds c =
     let copied = c .before .before in
     let flooded = copied .before .before .before .before .before in
     let s = flooded .before .before .before .before .before .before in
-    let near = neighbours (s .args .rows) (s .args .columns) in
+    let near = neighbours (s .args .edgeless) (s .args .rows) (s .args .columns) in
     let on = s .pre .1 .1 in
-    let fits = first-own (s .pre .0 .0) (s .args .start) (on .0) (on .1) (s .pre .1 .0) (on .2) (flooded .refresh-board .ensures) in
+    let fits = first-own _ (s .pre .0 .0) (s .args .start) (on .0) (on .1) (s .pre .1 .0) (on .2) (flooded .refresh-board .ensures) in
     rw (copied .copy-cells .ensures) (underway-first near (s .args .board .now) (threeRules near) (length (s .args .board .now)) _ fits)
 
 all-open-requires : tie.Need-all-open-requires Inv-loop μ-loop
 all-open-requires c κs =
     let s = called (c .before .before) in
-    same-cells (s .pre .0 .0) (c .before .before .loop .inv)
+    same-cells _ (s .pre .0 .0) (c .before .before .loop .inv)
 
 same-length : tie.Need-same-length Inv-loop μ-loop
 same-length c = search needs
@@ -74,17 +74,17 @@ same-length-2 c = as-long (c .before .before .before .before)
 returns : tie.Need-returns Inv-loop μ-loop
 returns c =
     let s = called (c .before .before .before .before) in
-    let near = neighbours (s .args .rows) (s .args .columns) in
+    let near = neighbours (s .args .edgeless) (s .args .rows) (s .args .columns) in
     let l = c .before .before .before .before .loop in
     let on = s .pre .1 .1 in
-    let begins = first-passes (s .pre .0 .0) (s .args .start) (on .0) (on .1) (s .pre .1 .0) (on .2) (begun (c .before .before .before .before) .refresh-board .ensures) in
+    let begins = first-passes _ (s .pre .0 .0) (s .args .start) (on .0) (on .1) (s .pre .1 .0) (on .2) (begun (c .before .before .before .before) .refresh-board .ensures) in
     rw (begins, ends-open near (s .args .board .now) (threeRules near) (l .inv) (sym (c .before .all-open .ensures) ∙ c .if1 .taken)) (refl, refl)
 
 find-cells-requires : tie.Need-find-cells-requires Inv-loop μ-loop
 find-cells-requires c κs =
     let s = called (c .before .before .before .before .before) in
     let l = c .before .before .before .before .before .loop in
-    (position-board (s .pre .0 .0) (l .inv), (own (s .args .board .now), l .inv .own-fits))
+    (position-board _ (s .pre .0 .0) (l .inv), (own (s .args .board .now), l .inv .own-fits))
 
 add-if2 : tie.Need-add-if2 Inv-loop μ-loop
 add-if2 c = search needs
@@ -103,8 +103,8 @@ returns-2 c =
     let s = called (tested .before .before .before) in
     let shut = sym (tested .all-open .ensures) ∙ asked .before .before .if1 .left in
     let on = s .pre .1 .1 in
-    let begins = first-passes (s .pre .0 .0) (s .args .start) (on .0) (on .1) (s .pre .1 .0) (on .2) (begun (tested .before .before .before) .refresh-board .ensures) in
-    rw (begins, found-nothing (s .pre .0 .0) (l .inv) (tested .before .before .loop-test .taken) shut (asked .find-cells .result) (asked .find-cells .ensures) (c .if2 .taken)) (refl, refl)
+    let begins = first-passes _ (s .pre .0 .0) (s .args .start) (on .0) (on .1) (s .pre .1 .0) (on .2) (begun (tested .before .before .before) .refresh-board .ensures) in
+    rw (begins, found-nothing _ (s .pre .0 .0) (l .inv) (tested .before .before .loop-test .taken) shut (asked .find-cells .result) (asked .find-cells .ensures) (c .if2 .taken)) (refl, refl)
 
 mark-mines-requires : tie.Need-mark-mines-requires Inv-loop μ-loop
 mark-mines-requires c κs =
@@ -112,7 +112,7 @@ mark-mines-requires c κs =
     let l = asked .before .before .before .before .before .before .loop in
     let s = called (asked .before .before .before .before .before .before) in
     let found = asked .find-cells .ensures in
-    ((found .mines-long, found .few-mines), rw (position-board (s .pre .0 .0) (l .inv) .whole) (found .mines-below))
+    ((found .mines-long, found .few-mines), rw (position-board _ (s .pre .0 .0) (l .inv) .whole) (found .mines-below))
 
 refresh-board-requires-2 : tie.Need-refresh-board-requires-2 Inv-loop μ-loop
 refresh-board-requires-2 c κs =
@@ -122,7 +122,7 @@ refresh-board-requires-2 c κs =
     let s = called (asked .before .before .before .before .before .before) in
     let r = asked .find-cells .result in
     let found = asked .find-cells .ensures in (
-      (s .pre .0 .0, marked-board (s .pre .0 .0) (l .inv) _ (take (r .«mine_count») (r .mines)) (marked .mark-mines .ensures)),
+      (s .pre .0 .0, marked-board _ (s .pre .0 .0) (l .inv) _ (take (r .«mine_count») (r .mines)) (marked .mark-mines .ensures)),
       (s .pre .1 .0, (found .few-safe, found .safe-long, found .safe-below)),
     )
 
@@ -134,7 +134,7 @@ add-rounds c =
     let tested = c .before .before .before .before .before .before .before .before .before .before .before .before .before .before .before .before .before .before in
     let l = tested .before .before .before .loop in
     let s = called (tested .before .before .before) in
-    omega (arith, few-rounds (s .pre .0 .0) (l .inv) (tested .before .before .loop-test .taken))
+    omega (arith, few-rounds _ (s .pre .0 .0) (l .inv) (tested .before .before .loop-test .taken))
 
 add-k : tie.Need-add-k Inv-loop μ-loop
 add-k c =
@@ -154,13 +154,13 @@ loop-again c =
     let l = tested .before .before .before .loop in
     let s = called (tested .before .before .before) in
     let shut = sym (tested .all-open .ensures) ∙ asked .before .before .if1 .left in
-    found-cells (s .pre .0 .0) (l .inv) (tested .before .before .loop-test .taken) shut (asked .find-cells .result) (asked .find-cells .ensures)
+    found-cells _ (s .pre .0 .0) (l .inv) (tested .before .before .loop-test .taken) shut (asked .find-cells .result) (asked .find-cells .ensures)
     (s .pre .1 .0) (marked .before .before .before .if2 .left) _ (marked .mark-mines .ensures) _ (flooded .refresh-board2 .ensures) _ (c .greater .ensures)
 
 all-open-requires-2 : tie.Need-all-open-requires-2 Inv-loop μ-loop
 all-open-requires-2 c κs =
     let s = called (c .before .before) in
-    same-cells (s .pre .0 .0) (c .before .before .loop .inv)
+    same-cells _ (s .pre .0 .0) (c .before .before .loop .inv)
 
 same-length-5 : tie.Need-same-length-5 Inv-loop μ-loop
 same-length-5 c = search needs
@@ -171,10 +171,10 @@ same-length-6 c = as-long (c .before .before .before)
 returns-3 : tie.Need-returns-3 Inv-loop μ-loop
 returns-3 c =
     let s = called (c .before .before .before) in
-    let near = neighbours (s .args .rows) (s .args .columns) in
+    let near = neighbours (s .args .edgeless) (s .args .rows) (s .args .columns) in
     let l = c .before .before .before .loop in
     let on = s .pre .1 .1 in
-    let begins = first-passes (s .pre .0 .0) (s .args .start) (on .0) (on .1) (s .pre .1 .0) (on .2) (begun (c .before .before .before) .refresh-board .ensures) in
+    let begins = first-passes _ (s .pre .0 .0) (s .args .start) (on .0) (on .1) (s .pre .1 .0) (on .2) (begun (c .before .before .before) .refresh-board .ensures) in
     rw (begins, ends-last near (s .args .board .now) (threeRules near) (l .inv) (c .before .before .loop-test .left), c .all-open2 .ensures) (refl, refl)
 
 pub run-passes-spec : {M : Type 1} → statement M
