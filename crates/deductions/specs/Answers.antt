@@ -80,11 +80,11 @@ abbrev pub deduction : (List Block → Found) → ℕ → ℕ → List ℕ → L
 deduction rule rows columns p s m =
     afterTests (deductionTested rows columns p (length s) (length m)) (rule (frontier (neighbours rows columns) p)) p s m
 
-unfoldable pub solveDirect : ℕ → ℕ → List ℕ → List ℕ → List ℕ → Seen
+abbrev pub solveDirect : ℕ → ℕ → List ℕ → List ℕ → List ℕ → Seen
 solveDirect rows columns p s m = deduction direct rows columns p s m
 
-unfoldable pub solveMinus : ℕ → ℕ → List ℕ → List ℕ → List ℕ → Seen
+abbrev pub solveMinus : ℕ → ℕ → List ℕ → List ℕ → List ℕ → Seen
 solveMinus rows columns p s m = deduction subtraction rows columns p s m
 
-unfoldable pub solveEnumerate : ℕ → ℕ → List ℕ → List ℕ → List ℕ → Seen
+abbrev pub solveEnumerate : ℕ → ℕ → List ℕ → List ℕ → List ℕ → Seen
 solveEnumerate rows columns p s m = deduction enumerated rows columns p s m
