@@ -1,6 +1,6 @@
 -- Cited by no public contract. The answers of the calls that deduce to a line: `safe 1,5 mine 5 pos 0 12 0 1 1 11`, behind it the blocks left, ` blocks 0`,
 -- where the rule hands them out; `refused 6`, or `unreadable`. Each list that is lent has room for 1024 cells. Assumes nothing.
-use mathlib.Core.Bool.{cond}
+use mathlib.Core.Bool.{Bool, true, false, cond}
 use mathlib.Core.List.{List, [], _∷_, _++_}
 use Prim.Native.Nat.{ℕ}
 use lib.ListN.{take, replicate}
@@ -35,15 +35,15 @@ positionText p = (32 ∷ 112 ∷ 111 ∷ 115 ∷ []) ++ cellsText p
 unfoldable pub foundText : Seen → List ℕ
 foundText w = safeText (take (w .answer .safe) (w .safe)) ++ (mineText (take (w .answer .mines) (w .mines)) ++ positionText (w .position))
 
--- ` blocks 0`
-abbrev pub blocksLeftText : BlockSet → List ℕ
-blocksLeftText set = 32 ∷ blocksText (blocksOf set)
+-- does a rule leave blocks? enumeration does not
+abbrev pub leavesBlocks : Rule → Bool
+leavesBlocks Direct = true
+leavesBlocks Minus = true
+leavesBlocks Enumerate = false
 
--- the blocks left behind that; enumeration leaves none
+-- ` blocks 0`: the blocks left
 abbrev pub leftText : Rule → BlockSet → List ℕ
-leftText Direct set = blocksLeftText set
-leftText Minus set = blocksLeftText set
-leftText Enumerate set = []
+leftText rule set = cond (leavesBlocks rule) (32 ∷ blocksText (blocksOf set)) []
 
 abbrev pub textAfter : Rule → Tested → Seen → List ℕ
 textAfter rule (Refused r) w = refusedText (refusalNumber r)

@@ -11,13 +11,14 @@ use show::put_cells;
 use show::put_numbers;
 use show::put_refused;
 use text::put_bytes;
+ghost use mathlib.Core.Path.{_≡_};
 ghost use Prim.Native.Nat.{_≤_};
 ghost use lib.ListN.{length};
 ghost use Rattle.blocks.specs.BlockSets.{Whole};
 ghost use Rattle.deductions.specs.Answers.{seen};
 ghost use Rattle.deductions.specs.ByRule.{Readable};
 ghost use Rattle.text.specs.Text.{Written};
-ghost use Rattle.rule_lines.specs.Deductions.{foundText, blocksLeftText, leftText, deductionText, deductionLine};
+ghost use Rattle.rule_lines.specs.Deductions.{foundText, leavesBlocks, leftText, deductionText, deductionLine};
 
 // `safe 1,5 mine 5 pos 0 12 0 1 1 11`
 fn put_found(
@@ -38,26 +39,28 @@ fn put_found(
     put_cells(out, at, position)
 }
 
-// ` blocks 0`, from a place on.
-fn put_blocks_left(out: &mut [u8], at: usize, left: BlockSet) -> usize
-    requires { ⌜ at ≤ length (now out) ⌝ }
-    requires { ⌜ Whole left ⌝ }
-    ensures { λ r. ⌜ Written (now (out .entry)) at (blocksLeftText left) (now (out .exit)) r ⌝ }
+// Does a rule hand out the blocks that it leaves?
+fn leaves_blocks(rule: Rule) -> bool
+    ensures { λ r. ⌜ r ≡ leavesBlocks rule ⌝ }
 {
-    let gap = put_bytes(out, at, b" ");
-    put_blocks(out, gap, left)
+    match rule {
+        Rule::Direct => true,
+        Rule::Minus => true,
+        Rule::Enumerate => false,
+    }
 }
 
-// The blocks left, from a place on; nothing where the rule leaves none.
+// ` blocks 0`, the blocks left, from a place on; nothing where the rule leaves none.
 fn put_left(out: &mut [u8], at: usize, rule: Rule, left: BlockSet) -> usize
     requires { ⌜ at ≤ length (now out) ⌝ }
     requires { ⌜ Whole left ⌝ }
     ensures { λ r. ⌜ Written (now (out .entry)) at (leftText rule left) (now (out .exit)) r ⌝ }
 {
-    match rule {
-        Rule::Direct => put_blocks_left(out, at, left),
-        Rule::Minus => put_blocks_left(out, at, left),
-        Rule::Enumerate => at,
+    if leaves_blocks(rule) {
+        let gap = put_bytes(out, at, b" ");
+        put_blocks(out, gap, left)
+    } else {
+        at
     }
 }
 
