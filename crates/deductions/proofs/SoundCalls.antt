@@ -27,14 +27,15 @@ use Rattle.fitting.specs.Layouts.{Fits}
 use Rattle.fitting.proofs.Layouts.{on-board}
 use Rattle.blocks.specs.BlockSets.{allCells}
 use Rattle.frontier.specs.Frontier.{frontier}
+use Rattle.marks.specs.Written.{written}
+use Rattle.marks.proofs.WrittenCells.{written-length, written-shows, written-elsewhere}
 use Rattle.rules.specs.Found.{Found}
 use Rattle.rules.proofs.Soundness.{SoundAt, listed-closed, listed-once, listed-few, listed-apart}
-use Rattle.deductions.specs.Answers.{Seen, seen, written, refusedAnswer, refused, afterTests, deduction}
+use Rattle.deductions.specs.Answers.{Seen, seen, refusedAnswer, refused, afterTests, deduction}
 use Rattle.deductions.specs.Calls.{ListsTrue, OnlyMarked, AllKept, SoundCall}
 use Rattle.deductions.specs.ByRule.{ruleOn}
 use Rattle.deductions.specs.declared.Rule.{Rule}
 use Rattle.deductions.specs.declared.answer.DeductionAnswer.{DeductionAnswer}
-use Rattle.deductions.proofs.WrittenCells.{written-length, written-shows, written-elsewhere}
 use Rattle.deductions.proofs.Handed.{after-contradiction, after-lists}
 use Rattle.deductions.proofs.Deductions.{sound-on}
 use Rattle.lists.proofs.Among.{Among}

@@ -10,13 +10,15 @@ use lib.ListN.{length, take}
 use Rattle.grid.specs.Window.{neighbours, Board}
 use Rattle.refusals.proofs.Accepted.{few-cells}
 use Rattle.fitting.specs.Boards.{Accepted}
-use Rattle.fitting.specs.Passes.{openCells, markMines, allOpen, ending, passes}
+use Rattle.fitting.specs.Passes.{openCells, allOpen, ending, passes}
 use Rattle.fitting.proofs.Own.{fit-length}
+use Rattle.marks.specs.Written.{written}
+use Rattle.marks.proofs.WrittenCells.{written-length}
 use Rattle.solutions.specs.ThreeRules.{threeRules}
 use Rattle.solutions.proofs.BoardRules.{neighbours-few-everywhere, board-rules-sound}
 use Rattle.verdict.specs.Findings.{Finds}
 use Rattle.verdict.specs.declared.finding.Finding.{Finding}
-use Rattle.verdict.proofs.SamePass.{marks-length}
+use Rattle.verdict.proofs.SamePass.{marks-written}
 use Rattle.verdict.proofs.FoundCells.{finds-nothing, finds-cell, finds-pass}
 use Rattle.verdict.proofs.Underway.{Underway, ends-stuck, underway-next}
 
@@ -34,8 +36,8 @@ module _ {rows columns : ℕ} {b : List ℕ} (board : Board b rows columns) {p�
   position-board = record { sized = board .sized; whole = same-cells ∙ board .whole }
 
   -- and has them when mines are marked
-  pub marked-board : (q ms : List ℕ) → q ≡ markMines p ms → Board q rows columns
-  marked-board q ms e = record { sized = board .sized; whole = rw e (marks-length p ms ∙ position-board .whole) }
+  pub marked-board : (q ms : List ℕ) → q ≡ written 11 ms p → Board q rows columns
+  marked-board q ms e = record { sized = board .sized; whole = rw e (written-length 11 ms p ∙ position-board .whole) }
 
   -- there are at most 1024 cells, and no more rounds than passes
   pub few-rounds : k < length b → rounds < 1024
@@ -50,11 +52,11 @@ module _ {rows columns : ℕ} {b : List ℕ} (board : Board b rows columns) {p�
 
     -- the mines that they found are marked and the safe cells opened
     pub found-cells : Accepted (neighbours rows columns) b → r .«safe_count» + r .«mine_count» ≢ 0
-        → (marked : List ℕ) → marked ≡ markMines p (take (r .«mine_count») (r .mines))
+        → (marked : List ℕ) → marked ≡ written 11 (take (r .«mine_count») (r .mines)) p
         → (q : List ℕ) → q ≡ openCells (neighbours rows columns) b marked (take (r .«safe_count») (r .safe))
         → (g : ℕ) → g ≡ max grade (r .grade) → OnBoard rows columns b p₀ (k + 1) q g (rounds + 1)
     found-cells ok some marked marks q opens g greatest =
         let near = neighbours rows columns in
         underway-next near b (threeRules near) u before shut ok (board-rules-sound rows columns b) (finds-cell found some)
-        q (opens ∙ rw marks (finds-pass found near b ok (λ c _. neighbours-few-everywhere rows columns c) p same-cells))
+        q (opens ∙ rw (marks, marks-written p (take (r .«mine_count») (r .mines))) (finds-pass found near b ok (λ c _. neighbours-few-everywhere rows columns c) p same-cells))
         g (greatest ∙ rw (found .same-grade))
