@@ -2,7 +2,7 @@
 use mathlib.Core.List.{List}
 use Prim.Native.Nat.{ℕ}
 use Rattle.frontier_lines.specs.Frontier.{frontierLine}
-use Rattle.rule_lines.specs.declared.Rule.the-variants as rule
+use Rattle.deductions.specs.declared.Rule.the-variants as rule
 use Rattle.rule_lines.specs.Deductions.{deductionLine}
 use Rattle.table_lines.specs.Tables.{tableLine}
 use Rattle.board_lines.specs.Patterns.{patternLine}

@@ -1,8 +1,8 @@
 // What each call answers to a line of numbers, as a line of text in a lent buffer: the text of the oracle, so that a comparison is a `diff`.
 use board_lines::pattern_line;
 use board_lines::verdicts::verdict_line;
+use deductions::Rule;
 use frontier_lines::frontier_line;
-use rule_lines::Rule;
 use rule_lines::deduction_line;
 use table_lines::table_line;
 ghost use Rattle.text.specs.Text.{Written};

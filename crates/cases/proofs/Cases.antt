@@ -15,7 +15,8 @@ use Rattle.subtraction.specs.Minus.{minusMines, minusSafe, minusLeft, subtracti
 use Rattle.groups.specs.Groups.{firsts, groups, sizes, groupsIn}
 use Rattle.search.specs.Solutions.{weighed, solutions}
 use Rattle.solutions.specs.Enumeration.{safeCells, mineCells, enumerated}
-use Rattle.deductions.specs.Answers.{refusedAnswer, written, afterFound}
+use Rattle.marks.specs.Written.{written}
+use Rattle.deductions.specs.Answers.{refusedAnswer, afterFound}
 use Rattle.tables.specs.Tables.{tableOf, blockAsked, calAllSolution}
 use Rattle.verdict.specs.Verdict.{judgedFrom, isSolvable}
 use Rattle.patterns.specs.Shapes.{amongMines, framed, foundAt, foundAnywhere, foundInCorner, patternFound}

@@ -42,8 +42,11 @@ use Rattle.subtraction.specs.Minus.{subtraction}
 use Rattle.subtraction.proofs.MinusLaws.{subtraction-no-contradiction}
 use Rattle.solutions.specs.Enumeration.{enumerated}
 use Rattle.solutions.proofs.NoSolution.{enumeration-contradiction-at}
-use Rattle.deductions.specs.Answers.{Seen, seen, refusedAnswer, afterTests, deduction, solveDirect, solveMinus, solveEnumerate}
-use Rattle.deductions.specs.Contradictions.{Placing, NoPlacing, TestsPass, DirectRefuses, MinusRefuses, EnumerateRefuses}
+use Rattle.deductions.specs.Answers.{Seen, seen, refusedAnswer, afterTests, deduction}
+use Rattle.deductions.specs.Contradictions.{Placing, NoPlacing, TestsPass}
+use Rattle.deductions.specs.ByRule.{ruleOn, Refuses}
+use Rattle.deductions.specs.declared.Rule.{Rule}
+use Rattle.deductions.specs.declared.Rule.the-variants.{Direct, Minus, Enumerate}
 use Rattle.deductions.specs.declared.answer.DeductionAnswer.{DeductionAnswer}
 use Rattle.deductions.proofs.Handed.{after-contradiction, after-lists}
 
@@ -135,22 +138,12 @@ module _ (rows columns : ℕ) (p : List ℕ) where
 -- ---- the calls
 
 module _ (rows columns : ℕ) (p s m : List ℕ) (r : DeductionAnswer) (p′ s′ m′ : List ℕ) where
-  -- solve_direct
-  pub direct-refuses-exactly : seen r p′ s′ m′ ≡ solveDirect rows columns p s m → DirectRefuses rows columns p s m (testedNumber (r .tested))
-  unfolding solveDirect
-  direct-refuses-exactly call =
+  pub call-refuses-by-rule : (rule : Rule) → seen r p′ s′ m′ ≡ deduction (ruleOn rule) rows columns p s m → Refuses rule rows columns p s m (testedNumber (r .tested))
+  call-refuses-by-rule Direct call =
       call-refuses direct (isContradictoryAt (neighbours rows columns) p ≡ true) rows columns p s m r p′ s′ m′ call (direct-meets rows columns p)
-
-  -- solve_minus
-  pub minus-refuses-only : seen r p′ s′ m′ ≡ solveMinus rows columns p s m → MinusRefuses rows columns p s m (testedNumber (r .tested))
-  unfolding solveMinus
-  minus-refuses-only call =
+  call-refuses-by-rule Minus call =
       call-refuses-only subtraction (NoPlacing (neighbours rows columns) p) rows columns p s m r p′ s′ m′ call (minus-meets rows columns p)
-
-  -- solve_enumerate
-  pub enumerate-refuses-exactly : seen r p′ s′ m′ ≡ solveEnumerate rows columns p s m → EnumerateRefuses rows columns p s m (testedNumber (r .tested))
-  unfolding solveEnumerate
-  enumerate-refuses-exactly call =
+  call-refuses-by-rule Enumerate call =
       call-refuses enumerated (NoPlacing (neighbours rows columns) p) rows columns p s m r p′ s′ m′ call
       (enumeration-contradiction-at (neighbours rows columns) p (neighbours-nodup rows columns) (neighbours-few rows columns))
 

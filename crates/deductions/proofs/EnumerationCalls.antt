@@ -1,5 +1,5 @@
--- What specs/Calls.antt says of solve_enumerate, from the equation that the call ensures. It is sound, as the calls of the two other rules are. And it is complete, since
--- enumeration is, and each cell of its lists stands at the front of the lent slices. Rests on SoundCalls and on Completeness of the crate solutions. Assumes nothing.
+-- What specs/Calls.antt says of solve_enumerate besides, from the equation that the call ensures: it is complete, since enumeration is, and each cell of its
+-- lists stands at the front of the lent slices. Rests on Deductions and on Completeness of the crate solutions. Assumes nothing.
 use mathlib.Core.Path.{_≡_, ap, _∙_}
 use mathlib.Core.Bool.{Bool, true}
 use mathlib.Core.List.{List}
@@ -21,25 +21,14 @@ use Rattle.frontier.specs.Frontier.{frontier}
 use Rattle.rules.specs.Found.{Found}
 use Rattle.rules.proofs.Soundness.{SoundAt, listed-few}
 use Rattle.solutions.specs.Enumeration.{enumerated}
-use Rattle.solutions.proofs.Completeness.{CompleteAt, enumeration-sound-at, enumeration-complete-at}
+use Rattle.solutions.proofs.Completeness.{enumeration-complete-at}
 use Rattle.deductions.specs.Answers.{Seen, seen, afterFound, solveEnumerate}
-use Rattle.deductions.specs.Calls.{SoundCall, AmongFirst, CompleteCall}
+use Rattle.deductions.specs.Calls.{AmongFirst, CompleteCall}
+use Rattle.deductions.specs.declared.Rule.the-variants.{Enumerate}
 use Rattle.deductions.specs.declared.answer.DeductionAnswer.{DeductionAnswer}
 use Rattle.deductions.proofs.Handed.{after-lists}
-use Rattle.deductions.proofs.SoundCalls.{call-sound}
+use Rattle.deductions.proofs.Deductions.{sound-on}
 use Rattle.lists.proofs.PlacesAndRanges.{mem-place}
-
--- ---- enumeration on a board
-
-module _ (rows columns : ℕ) (p : List ℕ) where
-  -- it is sound there
-  pub enumeration-sound-on : SoundAt (neighbours rows columns) p (enumerated (frontier (neighbours rows columns) p))
-  enumeration-sound-on = enumeration-sound-at (neighbours rows columns) (neighbours-nodup rows columns) (neighbours-few rows columns) p
-
-  -- and complete, where some layout fits
-  enumeration-complete-on : (layout : List Bool) → Fits (neighbours rows columns) p layout
-      → CompleteAt (neighbours rows columns) p (enumerated (frontier (neighbours rows columns) p))
-  enumeration-complete-on = enumeration-complete-at (neighbours rows columns) (neighbours-nodup rows columns) (neighbours-few rows columns) p
 
 -- ---- one list
 
@@ -51,49 +40,38 @@ stored-among l lent after n room counted stored c h =
 
 -- ---- the call
 
-module _ (rows columns : ℕ) (p s m : List ℕ) (r : DeductionAnswer) (p′ s′ m′ : List ℕ) (call : seen r p′ s′ m′ ≡ solveEnumerate rows columns p s m) where
-  -- it is sound
-  pub enumerate-call-sound : SoundCall rows columns p s m (testedNumber (r .tested)) (r .safe) (r .mines) p′ s′ m′
-  unfolding solveEnumerate
-  enumerate-call-sound = call-sound enumerated rows columns p s m r p′ s′ m′ (λ _. enumeration-sound-on rows columns p) call
+module _ (rows columns : ℕ) (p s m : List ℕ) (r : DeductionAnswer) (p′ s′ m′ : List ℕ) (call : seen r p′ s′ m′ ≡ solveEnumerate rows columns p s m)
+    (tests : deductionTested rows columns p (length s) (length m) ≡ Accepted) (layout : List Bool) (fit : Fits (neighbours rows columns) p layout) where
+  abbrev found : Found
+  found = enumerated (frontier (neighbours rows columns) p)
 
-  module _ (tests : deductionTested rows columns p (length s) (length m) ≡ Accepted) (layout : List Bool) (fit : Fits (neighbours rows columns) p layout) where
-    abbrev found : Found
-    found = enumerated (frontier (neighbours rows columns) p)
+  sound : SoundAt (neighbours rows columns) p found
+  sound = sound-on Enumerate rows columns p
 
-    accepted : AcceptedDeduction rows columns p (length s) (length m)
-    accepted = accepted-deduction rows columns p (length s) (length m) tests
+  accepted : AcceptedDeduction rows columns p (length s) (length m)
+  accepted = accepted-deduction rows columns p (length s) (length m) tests
 
-    safe-fits : length (found .safe) ≤ length s
-    safe-fits =
-        omega (arith, listed-few (neighbours rows columns) p (found .safe) (enumeration-sound-on rows columns p .safe-among), accepted .position .board .whole, accepted .safe-room)
+  safe-fits : length (found .safe) ≤ length s
+  safe-fits = omega (arith, listed-few (neighbours rows columns) p (found .safe) (sound .safe-among), accepted .position .board .whole, accepted .safe-room)
 
-    mines-fit : length (found .mines) ≤ length m
-    mines-fit =
-        omega (arith, listed-few (neighbours rows columns) p (found .mines) (enumeration-sound-on rows columns p .mines-among), accepted .position .board .whole, accepted .mines-room)
+  mines-fit : length (found .mines) ≤ length m
+  mines-fit = omega (arith, listed-few (neighbours rows columns) p (found .mines) (sound .mines-among), accepted .position .board .whole, accepted .mines-room)
 
-    -- what the caller sees is what enumeration finds
-    sees-found : seen r p′ s′ m′ ≡ afterFound found p s m
-    unfolding solveEnumerate
-    sees-found = rw tests at call
+  -- what the caller sees is what enumeration finds
+  sees-found : seen r p′ s′ m′ ≡ afterFound found p s m
+  sees-found = rw tests at call
 
-    -- and complete
-    pub enumerate-call-complete : CompleteCall (neighbours rows columns) p (testedNumber (r .tested)) (r .safe) (r .mines) s′ m′
-    enumerate-call-complete =
-        let whole = enumeration-complete-on rows columns p layout fit in
-        let told = sees-found ∙ after-lists found p s m (enumeration-sound-on rows columns p .no-contradiction layout fit) in
-        record {
-          is-accepted = ap (λ (v : Seen). testedNumber (v .answer .tested)) told;
-          safe-found = λ c d closed is-open beside free.
-              stored-among (found .safe) s s′ (r .safe) safe-fits (ap (λ (v : Seen). v .answer .safe) told) (ap (λ (v : Seen). v .safe) told) c
-              (whole .safe-found c d closed is-open beside free);
-          mines-found = λ c d closed is-open beside mined.
-              stored-among (found .mines) m m′ (r .mines) mines-fit (ap (λ (v : Seen). v .answer .mines) told) (ap (λ (v : Seen). v .mines) told) c
-              (whole .mines-found c d closed is-open beside mined);
-        }
-
-  -- so this holds of it
-  pub enumerate-call : SoundCall rows columns p s m (testedNumber (r .tested)) (r .safe) (r .mines) p′ s′ m′
-      × (deductionTested rows columns p (length s) (length m) ≡ Accepted → (layout : List Bool) → Fits (neighbours rows columns) p layout
-      → CompleteCall (neighbours rows columns) p (testedNumber (r .tested)) (r .safe) (r .mines) s′ m′)
-  enumerate-call = (enumerate-call-sound, enumerate-call-complete)
+  -- so the call is complete
+  pub enumerate-call-complete : CompleteCall (neighbours rows columns) p (testedNumber (r .tested)) (r .safe) (r .mines) s′ m′
+  enumerate-call-complete =
+      let whole = enumeration-complete-at (neighbours rows columns) (neighbours-nodup rows columns) (neighbours-few rows columns) p layout fit in
+      let told = sees-found ∙ after-lists found p s m (sound .no-contradiction layout fit) in
+      record {
+        is-accepted = ap (λ (v : Seen). testedNumber (v .answer .tested)) told;
+        safe-found = λ c d closed is-open beside free.
+            stored-among (found .safe) s s′ (r .safe) safe-fits (ap (λ (v : Seen). v .answer .safe) told) (ap (λ (v : Seen). v .safe) told) c
+            (whole .safe-found c d closed is-open beside free);
+        mines-found = λ c d closed is-open beside mined.
+            stored-among (found .mines) m m′ (r .mines) mines-fit (ap (λ (v : Seen). v .answer .mines) told) (ap (λ (v : Seen). v .mines) told) c
+            (whole .mines-found c d closed is-open beside mined);
+      }

@@ -19,12 +19,13 @@ use Rattle.refusals.specs.declared.Tested.the-variants.{Accepted, Refused}
 use Rattle.blocks.specs.BlockSets.{blockSet, Small, Whole}
 use Rattle.blocks.specs.declared.BlockSet.{BlockSet}
 use Rattle.blocks.proofs.Reading.{blocks-of-set}
+use Rattle.marks.specs.Written.{written}
+use Rattle.marks.proofs.WrittenCells.{written-none}
 use Rattle.rules.specs.Found.{Found, contradicted}
 use Rattle.rules.specs.Answers.{ruleAnswer, foundIn}
 use Rattle.rules.specs.declared.answer.RuleAnswer.{RuleAnswer}
-use Rattle.deductions.specs.Answers.{Held, Seen, seen, written, toldBy, refusedAnswer, refused, afterFound}
+use Rattle.deductions.specs.Answers.{Held, Seen, seen, toldBy, refusedAnswer, refused, afterFound}
 use Rattle.deductions.specs.declared.answer.DeductionAnswer.{DeductionAnswer}
-use Rattle.deductions.proofs.WrittenCells.{written-none}
 
 -- ---- what a caller sees of a rule's answer
 

@@ -1,7 +1,6 @@
 -- The laws of the calls on a position, in reading order.
 -- what a call is told, what it hands on and what it writes
 pub mod Handed
-pub mod WrittenCells
 pub mod Deductions
 -- what specs/Calls.antt says of the calls: the lists are true, and enumeration's are complete
 pub mod SoundCalls

@@ -1,6 +1,6 @@
--- What specs/Calls.antt says of solve_direct and of solve_minus, from the equations that the calls ensure. An accepted call hands on the lists of a rule that is sound at
--- the position: they are what stands at the front of the slices, and of what is marked. A refused call keeps all. Said once for any rule that is sound.
--- Rests on Soundness of the crate rules and on the laws of what is written. Assumes nothing.
+-- What specs/Calls.antt says of a call of any rule, from the equation that the call ensures. An accepted call hands on the lists of a rule that is sound at
+-- the position: they are what stands at the front of the slices, and of what is marked. A refused call keeps all. Rests on Deductions, Soundness of the crate
+-- rules and the laws of what is written. Assumes nothing.
 use mathlib.Core.Path.{_≡_, refl, sym, ap, _∙_}
 use mathlib.Core.Logic.{inl, inr, _≢_}
 use mathlib.Core.Bool.{Bool, true, false}
@@ -25,19 +25,19 @@ use Rattle.refusals.proofs.RefusalNumbers.{zero-accepted, else-refused}
 use Rattle.refusals.proofs.Accepted.{AcceptedDeduction, accepted-deduction}
 use Rattle.fitting.specs.Layouts.{Fits}
 use Rattle.fitting.proofs.Layouts.{on-board}
-use Rattle.blocks.specs.Blocks.{Block}
 use Rattle.blocks.specs.BlockSets.{allCells}
 use Rattle.frontier.specs.Frontier.{frontier}
+use Rattle.marks.specs.Written.{written}
+use Rattle.marks.proofs.WrittenCells.{written-length, written-shows, written-elsewhere}
 use Rattle.rules.specs.Found.{Found}
-use Rattle.rules.specs.Direct.{direct}
 use Rattle.rules.proofs.Soundness.{SoundAt, listed-closed, listed-once, listed-few, listed-apart}
-use Rattle.subtraction.specs.Minus.{subtraction}
-use Rattle.deductions.specs.Answers.{Seen, seen, written, refusedAnswer, refused, afterTests, deduction, solveDirect, solveMinus}
+use Rattle.deductions.specs.Answers.{Seen, seen, refusedAnswer, refused, afterTests, deduction}
 use Rattle.deductions.specs.Calls.{ListsTrue, OnlyMarked, AllKept, SoundCall}
+use Rattle.deductions.specs.ByRule.{ruleOn}
+use Rattle.deductions.specs.declared.Rule.{Rule}
 use Rattle.deductions.specs.declared.answer.DeductionAnswer.{DeductionAnswer}
-use Rattle.deductions.proofs.WrittenCells.{written-length, written-shows, written-elsewhere}
 use Rattle.deductions.proofs.Handed.{after-contradiction, after-lists}
-use Rattle.deductions.proofs.Deductions.{direct-sound-on, subtraction-sound-on}
+use Rattle.deductions.proofs.Deductions.{sound-on}
 use Rattle.lists.proofs.Among.{Among}
 use Rattle.lists.proofs.ReadBack.{front-taken, front-read, front-kept}
 
@@ -223,13 +223,15 @@ module _ (near : ℕ → List ℕ) (f : Found) (p s m : List ℕ) (r : Deduction
       apart (inl e) = clash (has (f .safe) (getD s′ i 0)) (front-has safe-front i h) (listed-apart near p f sound layout fit (getD s′ i 0) e)
       apart (inr e) = e
 
--- ---- a call of any rule that is sound at the position
+-- ---- a call of any rule
 
-module _ (rule : List Block → Found) (rows columns : ℕ) (p s m : List ℕ) (r : DeductionAnswer) (p′ s′ m′ : List ℕ)
-    (sound : 1 ≤ columns → SoundAt (neighbours rows columns) p (rule (frontier (neighbours rows columns) p)))
-    (call : seen r p′ s′ m′ ≡ deduction rule rows columns p s m) where
+module _ (rule : Rule) (rows columns : ℕ) (p s m : List ℕ) (r : DeductionAnswer) (p′ s′ m′ : List ℕ)
+    (call : seen r p′ s′ m′ ≡ deduction (ruleOn rule) rows columns p s m) where
   abbrev near : ℕ → List ℕ
   near = neighbours rows columns
+
+  abbrev found : Found
+  found = ruleOn rule (frontier near p)
 
   abbrev tests : Tested
   tests = deductionTested rows columns p (length s) (length m)
@@ -237,13 +239,10 @@ module _ (rule : List Block → Found) (rows columns : ℕ) (p s m : List ℕ) (
   -- what it is to be accepted
   module _ (a : r .tested ≡ Accepted) where
     facts : AcceptedDeduction rows columns p (length s) (length m)
-    facts = accepted-deduction rows columns p (length s) (length m) (gave (rule (frontier near p)) p s m r p′ s′ m′ tests call a .0)
+    facts = accepted-deduction rows columns p (length s) (length m) (gave found p s m r p′ s′ m′ tests call a .0)
 
-    lists : Gave (rule (frontier near p)) p s m r p′ s′ m′
-    lists = gave (rule (frontier near p)) p s m r p′ s′ m′ tests call a .1
-
-    sound-here : SoundAt near p (rule (frontier near p))
-    sound-here = sound (facts .position .some-columns)
+    lists : Gave found p s m r p′ s′ m′
+    lists = gave found p s m r p′ s′ m′ tests call a .1
 
     safe-room : length p ≤ length s
     safe-room = omega (arith, facts .position .board .whole, facts .safe-room)
@@ -253,27 +252,13 @@ module _ (rule : List Block → Found) (rows columns : ℕ) (p s m : List ℕ) (
 
   pub call-sound : SoundCall rows columns p s m (testedNumber (r .tested)) (r .safe) (r .mines) p′ s′ m′
   call-sound =
-      let f = rule (frontier near p) in
+      let sound = sound-on rule rows columns p in
       let zero : testedNumber (r .tested) ≡ 0 → r .tested ≡ Accepted = zero-accepted (r .tested) in
       record {
-        lists-true = λ n. let a = zero n in lists-are-true near f p s m r p′ s′ m′ (sound-here a) (safe-room a) (mines-room a) (lists a);
-        only-marked = λ n. let a = zero n in marks-only near f p s m r p′ s′ m′ (sound-here a) (safe-room a) (mines-room a) (lists a);
-        at-safe = λ n. let a = zero n in fitting-shows-safe near f p s m r p′ s′ m′ (sound-here a) (safe-room a) (mines-room a) (lists a);
-        all-kept = kept f p s m r p′ s′ m′ tests call;
-        refuses = λ x t. ap testedNumber (refused-by-tests f p s m r p′ s′ m′ tests call x t);
-        accepts = λ t layout fit. ap testedNumber (accepted f p s m r p′ s′ m′ tests call t
-            (sound (accepted-deduction rows columns p (length s) (length m) t .position .some-columns) .no-contradiction layout fit));
+        lists-true = λ n. let a = zero n in lists-are-true near found p s m r p′ s′ m′ sound (safe-room a) (mines-room a) (lists a);
+        only-marked = λ n. let a = zero n in marks-only near found p s m r p′ s′ m′ sound (safe-room a) (mines-room a) (lists a);
+        at-safe = λ n. let a = zero n in fitting-shows-safe near found p s m r p′ s′ m′ sound (safe-room a) (mines-room a) (lists a);
+        all-kept = kept found p s m r p′ s′ m′ tests call;
+        refuses = λ x t. ap testedNumber (refused-by-tests found p s m r p′ s′ m′ tests call x t);
+        accepts = λ t layout fit. ap testedNumber (accepted found p s m r p′ s′ m′ tests call t (sound .no-contradiction layout fit));
       }
-
--- ---- the two calls
-
-module _ (rows columns : ℕ) (p s m : List ℕ) (r : DeductionAnswer) (p′ s′ m′ : List ℕ) where
-  -- solve_direct
-  pub direct-call-sound : seen r p′ s′ m′ ≡ solveDirect rows columns p s m → SoundCall rows columns p s m (testedNumber (r .tested)) (r .safe) (r .mines) p′ s′ m′
-  unfolding solveDirect
-  direct-call-sound e = call-sound direct rows columns p s m r p′ s′ m′ (direct-sound-on rows columns p) e
-
-  -- solve_minus
-  pub minus-call-sound : seen r p′ s′ m′ ≡ solveMinus rows columns p s m → SoundCall rows columns p s m (testedNumber (r .tested)) (r .safe) (r .mines) p′ s′ m′
-  unfolding solveMinus
-  minus-call-sound e = call-sound subtraction rows columns p s m r p′ s′ m′ (subtraction-sound-on rows columns p) e

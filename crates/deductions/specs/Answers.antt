@@ -1,12 +1,12 @@
 -- The calls on a position (SPECIFICATION 4.3 and 8): what a caller sees of a rule's answer, refusals first, and the three calls. Assumes nothing.
 use mathlib.Core.Path.{_≡_}
 use mathlib.Core.Bool.{Bool, true, cond}
-use mathlib.Core.List.{List, [], map}
+use mathlib.Core.List.{List, []}
 use Prim.Native.Nat.{ℕ, _≤_}
 use lib.Dec.{ltb}
-use lib.ListN.{length, getD}
+use lib.ListN.{length}
 use lib.Seq.{sets}
-use Rattle.lists.specs.Lists.{range, all, has}
+use Rattle.lists.specs.Lists.{all}
 use Rattle.grid.specs.Window.{neighbours}
 use Rattle.refusals.specs.declared.Refusal.{Refusal}
 use Rattle.refusals.specs.declared.Refusal.the-variants.{Contradiction}
@@ -16,6 +16,7 @@ use Rattle.refusals.specs.Tests.{deductionTested}
 use Rattle.blocks.specs.Blocks.{Block}
 use Rattle.blocks.specs.BlockSets.{blockSet}
 use Rattle.frontier.specs.Frontier.{frontier}
+use Rattle.marks.specs.Written.{written}
 use Rattle.rules.specs.Found.{Found, contradicted}
 use Rattle.rules.specs.Direct.{direct}
 use Rattle.rules.specs.declared.answer.RuleAnswer.{RuleAnswer}
@@ -44,10 +45,6 @@ pub record Seen : Type 0 where
 
 abbrev pub seen : DeductionAnswer → List ℕ → List ℕ → List ℕ → Seen
 seen r p s m = record { answer = r; position = p; safe = s; mines = m }
-
--- the position with each listed cell set to a value
-unfoldable pub written : ℕ → List ℕ → List ℕ → List ℕ
-written value l p = map (λ c. cond (has l c) value (getD p c 0)) (range 0 (length p))
 
 -- a contradiction is refusal 6
 abbrev pub toldBy : Bool → Tested
@@ -80,11 +77,11 @@ abbrev pub deduction : (List Block → Found) → ℕ → ℕ → List ℕ → L
 deduction rule rows columns p s m =
     afterTests (deductionTested rows columns p (length s) (length m)) (rule (frontier (neighbours rows columns) p)) p s m
 
-unfoldable pub solveDirect : ℕ → ℕ → List ℕ → List ℕ → List ℕ → Seen
+abbrev pub solveDirect : ℕ → ℕ → List ℕ → List ℕ → List ℕ → Seen
 solveDirect rows columns p s m = deduction direct rows columns p s m
 
-unfoldable pub solveMinus : ℕ → ℕ → List ℕ → List ℕ → List ℕ → Seen
+abbrev pub solveMinus : ℕ → ℕ → List ℕ → List ℕ → List ℕ → Seen
 solveMinus rows columns p s m = deduction subtraction rows columns p s m
 
-unfoldable pub solveEnumerate : ℕ → ℕ → List ℕ → List ℕ → List ℕ → Seen
+abbrev pub solveEnumerate : ℕ → ℕ → List ℕ → List ℕ → List ℕ → Seen
 solveEnumerate rows columns p s m = deduction enumerated rows columns p s m

@@ -2,19 +2,15 @@
 // 11 at each mine, written last. A contradiction writes nothing.
 use blocks::BlockSet;
 use blocks::empty_set;
-use grid::window::wide;
 use marks::listing::put_list;
+use marks::write_at_cells;
 use refusals::Refusal;
 use refusals::Tested;
 use rules::answer::RuleAnswer;
 ghost use mathlib.Core.Path.{_≡_};
-ghost use mathlib.Core.Bool.{true};
-ghost use Prim.Native.Nat.{_≤_};
-ghost use lib.Dec.{ltb};
-ghost use lib.ListN.{length, take};
-ghost use Rattle.lists.specs.Lists.{all};
+ghost use lib.ListN.{length};
 ghost use Rattle.rules.specs.Answers.{foundIn};
-ghost use Rattle.deductions.specs.Answers.{refusedAnswer, toldBy, written, afterFound, Held, seen};
+ghost use Rattle.deductions.specs.Answers.{refusedAnswer, toldBy, afterFound, Held, seen};
 
 // What a call that deduces answers: the tests' answer or the contradiction, how many cells the two lists have, and the blocks left.
 pub struct DeductionAnswer {
@@ -33,17 +29,6 @@ pub fn refused(refusal: Refusal) -> DeductionAnswer
         safe: 0,
         mines: 0,
         blocks: empty_set(),
-    }
-}
-
-// Writes a value at each cell of a list.
-fn mark_cells(list: &[u16; 1024], count: usize, value: u8, position: &mut [u8])
-    requires { ⌜ (length (now list) ≡ 1024) × (count ≤ 1024) ⌝ }
-    requires { ⌜ all (λ c. ltb c (length (now position))) (take count (now list)) ≡ true ⌝ }
-    ensures { λ _. ⌜ now (position .exit) ≡ written value (take count (now (list .entry))) (now (position .entry)) ⌝ }
-{
-    for k in 0..count {
-        position[wide(list[k])] = value;
     }
 }
 
@@ -73,8 +58,8 @@ pub fn give_answer(
     let left = found.left;
     put_list(&safe_list, found.safe_count, safe, 0);
     put_list(&mine_list, found.mine_count, mines, 0);
-    mark_cells(&safe_list, found.safe_count, 12, position);
-    mark_cells(&mine_list, found.mine_count, 11, position);
+    write_at_cells(&safe_list, found.safe_count, 12, position);
+    write_at_cells(&mine_list, found.mine_count, 11, position);
     DeductionAnswer {
         tested: told(found.contradiction),
         safe: found.safe_count,

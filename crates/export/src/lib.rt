@@ -2,9 +2,8 @@
 // has room for. A refusal writes nothing. Numbers and slices only (a slice is a pointer and its length), and nothing is asked of the caller.
 // The first clause of a call gives the number and every lent byte, whatever room there is for counts. What demands 2 and 3 ask is said in the other clauses, of
 // the number, the slices and the first two counts, where there is room for both; when a rule refuses with 6 is said of the number alone.
-use deductions::solve_direct;
-use deductions::solve_enumerate;
-use deductions::solve_minus;
+use deductions::Rule;
+use deductions::deduce;
 use frontier::refresh_matrixs;
 use patterns::PatternAnswer;
 use patterns::unsolvable_structure;
@@ -29,9 +28,10 @@ ghost use Rattle.refusals.specs.Tests.{boardTested, deductionTested, startCell}
 ghost use Rattle.fitting.specs.Layouts.{Fits};
 ghost use Rattle.fitting.specs.Demand.{Demand3};
 ghost use Rattle.frontier.specs.Answer.{refreshMatrixs};
-ghost use Rattle.deductions.specs.Answers.{solveDirect, solveMinus, solveEnumerate};
+ghost use Rattle.deductions.specs.Answers.{deduction, solveDirect, solveMinus, solveEnumerate};
 ghost use Rattle.deductions.specs.Calls.{SoundCall, CompleteCall};
 ghost use Rattle.deductions.specs.Contradictions.{DirectRefuses, MinusRefuses, EnumerateRefuses};
+ghost use Rattle.deductions.specs.ByRule.{ruleOn, Completes, Refuses};
 ghost use Rattle.tables.specs.Tables.{calAllSolution};
 ghost use Rattle.tables.specs.Listed.{TableCall};
 ghost use Rattle.patterns.specs.Answer.{unsolvableStructure};
@@ -66,6 +66,29 @@ fn put_deduction(tested: Tested, safe: usize, mines: usize, counts: &mut [u64]) 
             0
         }
     }
+}
+
+// A rule's call, with its counts.
+fn deduce_counted(
+    rule: Rule,
+    rows: usize,
+    columns: usize,
+    position: &mut [u8],
+    safe: &mut [u16],
+    mines: &mut [u16],
+    counts: &mut [u64],
+) -> u8
+    ensures { λ r. ⌜ returned r (now (position .exit) ∷ now (safe .exit) ∷ now (mines .exit) ∷ []) (now (counts .exit))
+        ≡ deductionReturned (deduction (ruleOn rule) rows columns (now (position .entry)) (now (safe .entry)) (now (mines .entry))) (now (counts .entry)) ⌝ }
+    ensures sound { λ r. ⌜ (1 < length (now (counts .entry)) → SoundCall rows columns (now (position .entry)) (now (safe .entry)) (now (mines .entry))
+        r (getD (now (counts .exit)) 0 0) (getD (now (counts .exit)) 1 0) (now (position .exit)) (now (safe .exit)) (now (mines .exit))) ⌝ }
+    ensures complete { λ r. ⌜ (1 < length (now (counts .entry)) → Completes rule rows columns (now (position .entry)) (now (safe .entry)) (now (mines .entry))
+        r (getD (now (counts .exit)) 0 0) (getD (now (counts .exit)) 1 0) (now (safe .exit)) (now (mines .exit))) ⌝ }
+    ensures six { λ r. ⌜ Refuses rule rows columns (now (position .entry)) (now (safe .entry)) (now (mines .entry)) r ⌝ }
+{
+    let answer = deduce(rule, rows, columns, position, safe, mines);
+    let tested = answer.tested;
+    put_deduction(tested, answer.safe, answer.mines, counts)
 }
 
 // refresh_matrixs. Counts: blocks, inside cells, known mines.
@@ -109,9 +132,7 @@ pub extern "C" fn lihvompa_direct(
         r (getD (now (counts .exit)) 0 0) (getD (now (counts .exit)) 1 0) (now (position .exit)) (now (safe .exit)) (now (mines .exit))) ⌝ }
     ensures six { λ r. ⌜ DirectRefuses rows columns (now (position .entry)) (now (safe .entry)) (now (mines .entry)) r ⌝ }
 {
-    let answer = solve_direct(rows, columns, position, safe, mines);
-    let tested = answer.tested;
-    put_deduction(tested, answer.safe, answer.mines, counts)
+    deduce_counted(Rule::Direct, rows, columns, position, safe, mines, counts)
 }
 
 // solve_minus, likewise.
@@ -130,9 +151,7 @@ pub extern "C" fn lihvompa_minus(
         r (getD (now (counts .exit)) 0 0) (getD (now (counts .exit)) 1 0) (now (position .exit)) (now (safe .exit)) (now (mines .exit))) ⌝ }
     ensures six { λ r. ⌜ MinusRefuses rows columns (now (position .entry)) (now (safe .entry)) (now (mines .entry)) r ⌝ }
 {
-    let answer = solve_minus(rows, columns, position, safe, mines);
-    let tested = answer.tested;
-    put_deduction(tested, answer.safe, answer.mines, counts)
+    deduce_counted(Rule::Minus, rows, columns, position, safe, mines, counts)
 }
 
 // solve_enumerate, likewise; and where some layout fits, each cell of the frontier that is the same in all of them is listed.
@@ -156,9 +175,15 @@ pub extern "C" fn lihvompa_enumerate(
         r (getD (now (counts .exit)) 0 0) (getD (now (counts .exit)) 1 0) (now (safe .exit)) (now (mines .exit))) ⌝ }
     ensures six { λ r. ⌜ EnumerateRefuses rows columns (now (position .entry)) (now (safe .entry)) (now (mines .entry)) r ⌝ }
 {
-    let answer = solve_enumerate(rows, columns, position, safe, mines);
-    let tested = answer.tested;
-    put_deduction(tested, answer.safe, answer.mines, counts)
+    deduce_counted(
+        Rule::Enumerate,
+        rows,
+        columns,
+        position,
+        safe,
+        mines,
+        counts,
+    )
 }
 
 // cal_all_solution: the rows of a block's solutions go to the front of the table. Counts: solutions, groups. A caller that lends room for both has of them and of

@@ -1,4 +1,6 @@
 -- The laws of marks and of what they leave, in reading order.
+-- a value written at cells
+pub mod WrittenCells
 -- cells marked, and listed by their marks
 pub mod MarkedCells
 pub mod ByMarks

@@ -1,16 +1,19 @@
 // Cells marked in arrays of bytes: 1 for a cell that is found, 0 for any other. `listing` lists the cells of blocks by their marks, `left` writes what is left of
-// blocks without the marked cells. specs/Marked.antt says what these functions are told and tell.
+// blocks without the marked cells; `write_at_cells` writes a value at the cells of a list. specs/Marked.antt and specs/Written.antt say what these functions are
+// told and tell.
 pub mod left;
 pub mod listing;
 
 use grid::window::Neighbours;
 use grid::window::wide;
 ghost use mathlib.Core.Path.{_≡_};
-ghost use mathlib.Core.Bool.{_||_};
-ghost use Prim.Native.Nat.{ℕ, _<_};
-ghost use lib.ListN.{getD, take};
-ghost use Rattle.lists.specs.Lists.{bit, count};
+ghost use mathlib.Core.Bool.{true, _||_};
+ghost use Prim.Native.Nat.{ℕ, _≤_, _<_};
+ghost use lib.Dec.{ltb};
+ghost use lib.ListN.{length, getD, take};
+ghost use Rattle.lists.specs.Lists.{all, bit, count};
 ghost use Rattle.blocks.specs.Places.{marked, OnBoard};
+ghost use Rattle.marks.specs.Written.{written};
 
 // How many cells of a list are marked.
 pub fn count_marked(marks: &[u8; 1024], list: Neighbours) -> usize
@@ -42,4 +45,15 @@ pub fn marked_in_one(mines: &[u8; 1024], safe: &[u8; 1024]) -> [u8; 1024]
         }
     }
     known
+}
+
+// Writes a value at the first `count` cells of a list.
+pub fn write_at_cells(list: &[u16; 1024], count: usize, value: u8, position: &mut [u8])
+    requires { ⌜ (length (now list) ≡ 1024) × (count ≤ 1024) ⌝ }
+    requires { ⌜ all (λ c. ltb c (length (now position))) (take count (now list)) ≡ true ⌝ }
+    ensures { λ _. ⌜ now (position .exit) ≡ written value (take count (now (list .entry))) (now (position .entry)) ⌝ }
+{
+    for k in 0..count {
+        position[wide(list[k])] = value;
+    }
 }

@@ -1,3 +1,2 @@
--- The laws of a rule's answer as text: that it can be read, and the writes that make it up.
-pub mod PrintableAnswers
+-- The laws of a rule's answer as text: the writes that make it up.
 pub mod RuleWritten

@@ -10,6 +10,8 @@ use Rattle.lists.proofs.Joined.{read-range}
 use Rattle.refusals.specs.declared.Tested.{Tested}
 use Rattle.refusals.specs.declared.Tested.the-variants.{Accepted}
 use Rattle.deductions.specs.Answers.{Seen}
+use Rattle.deductions.specs.ByRule.{Readable}
+use Rattle.deductions.specs.declared.Rule.{Rule}
 use Rattle.text.specs.Text.{Written}
 use Rattle.text.proofs.Writing.{written-within, written-both}
 use Rattle.show.specs.Blocks.{numbersIn, numbersText}
@@ -17,8 +19,7 @@ use Rattle.show.specs.Cells.{cellsText}
 use Rattle.lines.specs.declared.Line.{Line}
 use Rattle.lines.specs.Lines.{lineOf}
 use Rattle.lines.proofs.Answered.{readable-written}
-use Rattle.rule_lines.specs.declared.Rule.{Rule}
-use Rattle.rule_lines.specs.Deductions.{foundText, leftText, textAfter, deductionText, Printable, calledOn, deductionLine}
+use Rattle.rule_lines.specs.Deductions.{foundText, leftText, textAfter, deductionText, calledOn, deductionLine}
 
 -- ---- what a rule found
 
@@ -28,7 +29,7 @@ first-numbers l n h = let e : n - 0 ≡ n = omega arith in ap numbersText (rw e 
 
 module _ {b safe : List ℕ} {i : ℕ} {safe-list : List ℕ} {j : ℕ} {mine : List ℕ} {k : ℕ} {mine-list : List ℕ} {l : ℕ} {word : List ℕ} {m : ℕ} {after : List ℕ} {r : ℕ}
   where
-    pub found-written : (w : Seen) → Printable w
+    pub found-written : (w : Seen) → Readable w
         → Written b 0 (115 ∷ 97 ∷ 102 ∷ 101 ∷ 32 ∷ []) safe i → Written safe i (numbersText (numbersIn (w .safe) 0 (w .answer .safe))) safe-list j
         → Written safe-list j (32 ∷ 109 ∷ 105 ∷ 110 ∷ 101 ∷ 32 ∷ []) mine k → Written mine k (numbersText (numbersIn (w .mines) 0 (w .answer .mines))) mine-list l
         → Written mine-list l (32 ∷ 112 ∷ 111 ∷ 115 ∷ []) word m → Written word m (cellsText (w .position)) after r

@@ -1,22 +1,23 @@
 -- Cited by no public contract. The answers of the calls that deduce to a line: `safe 1,5 mine 5 pos 0 12 0 1 1 11`, behind it the blocks left, ` blocks 0`,
 -- where the rule hands them out; `refused 6`, or `unreadable`. Each list that is lent has room for 1024 cells. Assumes nothing.
-use mathlib.Core.Bool.{cond}
+use mathlib.Core.Bool.{Bool, true, false, cond}
 use mathlib.Core.List.{List, [], _∷_, _++_}
-use Prim.Native.Nat.{ℕ, _≤_}
-use lib.ListN.{length, take, replicate}
+use Prim.Native.Nat.{ℕ}
+use lib.ListN.{take, replicate}
 use Rattle.refusals.specs.declared.Tested.{Tested}
 use Rattle.refusals.specs.declared.Tested.the-variants.{Accepted, Refused}
 use Rattle.refusals.specs.Refusals.{refusalNumber}
 use Rattle.blocks.specs.declared.BlockSet.{BlockSet}
-use Rattle.blocks.specs.BlockSets.{blocksOf, Whole}
-use Rattle.deductions.specs.Answers.{Seen, solveDirect, solveMinus, solveEnumerate}
+use Rattle.blocks.specs.BlockSets.{blocksOf}
+use Rattle.deductions.specs.Answers.{Seen, deduction}
+use Rattle.deductions.specs.ByRule.{ruleOn}
+use Rattle.deductions.specs.declared.Rule.{Rule}
+use Rattle.deductions.specs.declared.Rule.the-variants.{Direct, Minus, Enumerate}
 use Rattle.show.specs.Blocks.{numbersText, blocksText}
 use Rattle.show.specs.Cells.{cellsText}
 use Rattle.show.specs.Refusals.{refusedText}
 use Rattle.lines.specs.declared.Line.{Line}
 use Rattle.lines.specs.Lines.{lineOf, unreadableText}
-use Rattle.rule_lines.specs.declared.Rule.{Rule}
-use Rattle.rule_lines.specs.declared.Rule.the-variants.{Direct, Minus, Enumerate}
 
 -- `safe 1,5`
 abbrev pub safeText : List ℕ → List ℕ
@@ -34,15 +35,15 @@ positionText p = (32 ∷ 112 ∷ 111 ∷ 115 ∷ []) ++ cellsText p
 unfoldable pub foundText : Seen → List ℕ
 foundText w = safeText (take (w .answer .safe) (w .safe)) ++ (mineText (take (w .answer .mines) (w .mines)) ++ positionText (w .position))
 
--- ` blocks 0`
-abbrev pub blocksLeftText : BlockSet → List ℕ
-blocksLeftText set = 32 ∷ blocksText (blocksOf set)
+-- does a rule leave blocks? enumeration does not
+abbrev pub leavesBlocks : Rule → Bool
+leavesBlocks Direct = true
+leavesBlocks Minus = true
+leavesBlocks Enumerate = false
 
--- the blocks left behind that; enumeration leaves none
+-- ` blocks 0`: the blocks left
 abbrev pub leftText : Rule → BlockSet → List ℕ
-leftText Direct set = blocksLeftText set
-leftText Minus set = blocksLeftText set
-leftText Enumerate set = []
+leftText rule set = cond (leavesBlocks rule) (32 ∷ blocksText (blocksOf set)) []
 
 abbrev pub textAfter : Rule → Tested → Seen → List ℕ
 textAfter rule (Refused r) w = refusedText (refusalNumber r)
@@ -52,21 +53,9 @@ textAfter rule Accepted w = foundText w ++ leftText rule (w .answer .blocks)
 unfoldable pub deductionText : Rule → Seen → List ℕ
 deductionText rule w = textAfter rule (w .answer .tested) w
 
--- the counts are within the lists, and the blocks can be read
-pub record Printable (w : Seen) : Type 0 where
-  pub safe-within : w .answer .safe ≤ length (w .safe)
-  pub mines-within : w .answer .mines ≤ length (w .mines)
-  pub blocks-whole : Whole (w .answer .blocks)
-
--- a rule called on a position: what its caller sees
-unfoldable pub called : Rule → ℕ → ℕ → List ℕ → List ℕ → List ℕ → Seen
-called Direct rows columns p s m = solveDirect rows columns p s m
-called Minus rows columns p s m = solveMinus rows columns p s m
-called Enumerate rows columns p s m = solveEnumerate rows columns p s m
-
--- its answer to a line's position
+-- what the caller of a rule sees of a line's position
 abbrev pub calledOn : Rule → Line → Seen
-calledOn rule l = called rule (l .rows) (l .columns) (take (l .len) (l .cells)) (replicate 1024 0) (replicate 1024 0)
+calledOn rule l = deduction (ruleOn rule) (l .rows) (l .columns) (take (l .len) (l .cells)) (replicate 1024 0) (replicate 1024 0)
 
 -- a rule's answer to a line
 unfoldable pub deductionLine : Rule → List ℕ → List ℕ

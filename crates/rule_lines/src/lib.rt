@@ -1,10 +1,9 @@
 // The answers of the calls that deduce to a line of numbers: `refused 6`, or the two lists, the position with its marks, and the blocks left where the rule
 // hands them out.
 use blocks::BlockSet;
+use deductions::Rule;
 use deductions::answer::DeductionAnswer;
-use deductions::solve_direct;
-use deductions::solve_enumerate;
-use deductions::solve_minus;
+use deductions::deduce;
 use lines::read_line;
 use refusals::Tested;
 use show::put_blocks;
@@ -17,33 +16,9 @@ ghost use Prim.Native.Nat.{_≤_};
 ghost use lib.ListN.{length};
 ghost use Rattle.blocks.specs.BlockSets.{Whole};
 ghost use Rattle.deductions.specs.Answers.{seen};
+ghost use Rattle.deductions.specs.ByRule.{Readable};
 ghost use Rattle.text.specs.Text.{Written};
-ghost use Rattle.rule_lines.specs.Deductions.{called, Printable, foundText, blocksLeftText, leftText, deductionText, deductionLine};
-
-// The rules that can be called on a position.
-pub enum Rule {
-    Direct,
-    Minus,
-    Enumerate,
-}
-
-// A rule called on a position.
-fn call_rule(
-    rule: Rule,
-    rows: usize,
-    columns: usize,
-    position: &mut [u8],
-    safe: &mut [u16],
-    mines: &mut [u16],
-) -> DeductionAnswer
-    ensures { λ r. ⌜ seen r (now (position .exit)) (now (safe .exit)) (now (mines .exit)) ≡ called rule rows columns (now (position .entry)) (now (safe .entry)) (now (mines .entry)) ⌝ }
-{
-    match rule {
-        Rule::Direct => solve_direct(rows, columns, position, safe, mines),
-        Rule::Minus => solve_minus(rows, columns, position, safe, mines),
-        Rule::Enumerate => solve_enumerate(rows, columns, position, safe, mines),
-    }
-}
+ghost use Rattle.rule_lines.specs.Deductions.{foundText, leavesBlocks, leftText, deductionText, deductionLine};
 
 // `safe 1,5 mine 5 pos 0 12 0 1 1 11`
 fn put_found(
@@ -53,7 +28,7 @@ fn put_found(
     safe: &[u16],
     mines: &[u16],
 ) -> usize
-    requires { ⌜ Printable (seen answer (now position) (now safe) (now mines)) ⌝ }
+    requires { ⌜ Readable (seen answer (now position) (now safe) (now mines)) ⌝ }
     ensures { λ r. ⌜ Written (now (out .entry)) 0 (foundText (seen answer (now (position .entry)) (now (safe .entry)) (now (mines .entry)))) (now (out .exit)) r ⌝ }
 {
     let mut at = put_bytes(out, 0, b"safe ");
@@ -64,26 +39,28 @@ fn put_found(
     put_cells(out, at, position)
 }
 
-// ` blocks 0`, from a place on.
-fn put_blocks_left(out: &mut [u8], at: usize, left: BlockSet) -> usize
-    requires { ⌜ at ≤ length (now out) ⌝ }
-    requires { ⌜ Whole left ⌝ }
-    ensures { λ r. ⌜ Written (now (out .entry)) at (blocksLeftText left) (now (out .exit)) r ⌝ }
+// Does a rule hand out the blocks that it leaves?
+fn leaves_blocks(rule: Rule) -> bool
+    ensures { λ r. ⌜ r ≡ leavesBlocks rule ⌝ }
 {
-    let gap = put_bytes(out, at, b" ");
-    put_blocks(out, gap, left)
+    match rule {
+        Rule::Direct => true,
+        Rule::Minus => true,
+        Rule::Enumerate => false,
+    }
 }
 
-// The blocks left, from a place on; nothing where the rule leaves none.
+// ` blocks 0`, the blocks left, from a place on; nothing where the rule leaves none.
 fn put_left(out: &mut [u8], at: usize, rule: Rule, left: BlockSet) -> usize
     requires { ⌜ at ≤ length (now out) ⌝ }
     requires { ⌜ Whole left ⌝ }
     ensures { λ r. ⌜ Written (now (out .entry)) at (leftText rule left) (now (out .exit)) r ⌝ }
 {
-    match rule {
-        Rule::Direct => put_blocks_left(out, at, left),
-        Rule::Minus => put_blocks_left(out, at, left),
-        Rule::Enumerate => at,
+    if leaves_blocks(rule) {
+        let gap = put_bytes(out, at, b" ");
+        put_blocks(out, gap, left)
+    } else {
+        at
     }
 }
 
@@ -96,7 +73,7 @@ fn put_deduction(
     safe: &[u16],
     mines: &[u16],
 ) -> usize
-    requires { ⌜ Printable (seen answer (now position) (now safe) (now mines)) ⌝ }
+    requires { ⌜ Readable (seen answer (now position) (now safe) (now mines)) ⌝ }
     ensures { λ r. ⌜ Written (now (out .entry)) 0 (deductionText rule (seen answer (now (position .entry)) (now (safe .entry)) (now (mines .entry)))) (now (out .exit)) r ⌝ }
 {
     let tested = answer.tested;
@@ -122,7 +99,7 @@ pub fn deduction_line(rule: Rule, line: &[u8], out: &mut [u8]) -> usize
     let len = read.len;
     let mut safe = [0u16; 1024];
     let mut mines = [0u16; 1024];
-    let answer = call_rule(
+    let answer = deduce(
         rule,
         read.rows,
         read.columns,

@@ -1,6 +1,6 @@
--- The loops that go through a list of cells or the cells of a board. Marking the cells of a list from place k on leads to where marking all of them leads;
--- all safe cells are open if each cell passed was a mine or open; closing what is not open, from place i on, and counting what is open, lead to the picture and
--- to the number of its open cells; and cells that go from one position to another, one after another, make the two the same. Rests on InPlaceAndEmpty. Assumes nothing.
+-- The loops that go through the cells of a board. All safe cells are open if each cell passed was a mine or open; closing what is not open, from place i on,
+-- and counting what is open, lead to the picture and to the number of its open cells; and cells that go from one position to another, one after another, make
+-- the two the same. Rests on InPlaceAndEmpty. Assumes nothing.
 use mathlib.Core.Path.{_≡_, refl, sym, ap, _∙_}
 use mathlib.Core.Logic.{_≢_}
 use mathlib.Core.Bool.{Bool, true, false, cond, _||_}
@@ -16,21 +16,10 @@ use Rattle.lists.specs.Lists.{every}
 use Rattle.lists.proofs.Tests.{every-fails}
 use Rattle.lists.proofs.Elements.{getD-any}
 use Rattle.lists.proofs.Arrays.{drop-more, drop-none}
-use Rattle.lists.proofs.Counted.{counted-none, rest-more}
 use Rattle.grid.specs.Cells.{cellOf, shows}
 use Rattle.fitting.specs.Demand.{picture, opened}
-use Rattle.fitting.specs.Passes.{markMines, allOpen}
+use Rattle.fitting.specs.Passes.{allOpen}
 use Rattle.verdict.proofs.InPlaceAndEmpty.{fromOn, from-first, from-stored, from-kept, from-last}
-
--- ---- mines are marked, one after another: those from place k on are left
-
-module _ (list : List ℕ) (count k : ℕ) (p : List ℕ) where
-  pub mark-next : (c : ℕ) → count ≤ length list → k < count → c ≡ getD list k 0
-      → markMines (set p c 11) (drop (k + 1) (take count list)) ≡ markMines p (drop k (take count list))
-  mark-next c few inside at = rw (rest-more list count k c few inside at)
-
-  pub mark-end : count ≤ k → markMines p (drop k (take count list)) ≡ p
-  mark-end past = rw (counted-none list count k past)
 
 -- ---- is every safe cell open?
 

@@ -11,13 +11,15 @@ use Rattle.grid.specs.Window.{neighbours, Board}
 use Rattle.grid.proofs.Neighbours.{neighbours-few}
 use Rattle.refusals.proofs.Accepted.{few-cells}
 use Rattle.fitting.specs.Boards.{Accepted}
-use Rattle.fitting.specs.Passes.{openCells, markMines, allOpen, ending, passes}
+use Rattle.fitting.specs.Passes.{openCells, allOpen, ending, passes}
 use Rattle.fitting.proofs.Own.{fit-length}
+use Rattle.marks.specs.Written.{written}
+use Rattle.marks.proofs.WrittenCells.{written-length}
 use Rattle.solutions.specs.ThreeRules.{threeRules}
 use Rattle.solutions.proofs.BoardRules.{board-rules-sound}
 use Rattle.verdict.specs.Findings.{Finds}
 use Rattle.verdict.specs.declared.finding.Finding.{Finding}
-use Rattle.verdict.proofs.SamePass.{marks-length}
+use Rattle.verdict.proofs.SamePass.{marks-written}
 use Rattle.verdict.proofs.FoundCells.{finds-nothing, finds-cell, finds-pass}
 use Rattle.verdict.proofs.Underway.{Underway, ends-stuck, underway-next}
 
@@ -35,8 +37,8 @@ module _ (edgeless : Bool) {rows columns : ℕ} {b : List ℕ} (board : Board b 
   position-board = record { sized = board .sized; whole = same-cells ∙ board .whole }
 
   -- and has them when mines are marked
-  pub marked-board : (q ms : List ℕ) → q ≡ markMines p ms → Board q rows columns
-  marked-board q ms e = record { sized = board .sized; whole = rw e (marks-length p ms ∙ position-board .whole) }
+  pub marked-board : (q ms : List ℕ) → q ≡ written 11 ms p → Board q rows columns
+  marked-board q ms e = record { sized = board .sized; whole = rw e (written-length 11 ms p ∙ position-board .whole) }
 
   -- there are at most 1024 cells, and no more rounds than passes
   pub few-rounds : k < length b → rounds < 1024
@@ -51,11 +53,11 @@ module _ (edgeless : Bool) {rows columns : ℕ} {b : List ℕ} (board : Board b 
 
     -- the mines that they found are marked and the safe cells opened
     pub found-cells : Accepted (neighbours edgeless rows columns) b → r .«safe_count» + r .«mine_count» ≢ 0
-        → (marked : List ℕ) → marked ≡ markMines p (take (r .«mine_count») (r .mines))
+        → (marked : List ℕ) → marked ≡ written 11 (take (r .«mine_count») (r .mines)) p
         → (q : List ℕ) → q ≡ openCells (neighbours edgeless rows columns) b marked (take (r .«safe_count») (r .safe))
         → (g : ℕ) → g ≡ max grade (r .grade) → OnBoard edgeless rows columns b p₀ (k + 1) q g (rounds + 1)
     found-cells ok some marked marks q opens g greatest =
         let near = neighbours edgeless rows columns in
         underway-next near b (threeRules near) u before shut ok (board-rules-sound edgeless rows columns b) (finds-cell found some)
-        q (opens ∙ rw marks (finds-pass found near b ok (λ c _. neighbours-few edgeless rows columns c) p same-cells))
+        q (opens ∙ rw (marks, marks-written p (take (r .«mine_count») (r .mines))) (finds-pass found near b ok (λ c _. neighbours-few edgeless rows columns c) p same-cells))
         g (greatest ∙ rw (found .same-grade))

@@ -1,52 +1,33 @@
 -- A pass asks of what a rule found only which cells the two lists have, and not in which order: marks in any order show the same (`marks-any-order`), the
 -- flood opens the same cells (`flood-any-order` of the crate flood), so the pass leaves the same position (`same-pass`), and it finds nothing where the other
 -- finds nothing (`same-nothing`). Assumes nothing.
-use mathlib.Core.Path.{_≡_, refl, sym, ap, _∙_}
-use mathlib.Core.Logic.{inl, inr}
-use mathlib.Core.Bool.{Bool, true, false, cond}
+use mathlib.Core.Path.{_≡_, sym, ap, _∙_}
+use mathlib.Core.Bool.{cond}
 use mathlib.Core.List.{List, [], _∷_}
 use Prim.Native.Nat.{ℕ, _≤_, _<_}
-use native.Mathlib.Omega.{arith}
-use lib.Dec.{eqb}
-use lib.ListN.{length, set, length-set}
-use lib.Seq.{getD-set-same, getD-set-other, ext-getD}
-use borrow.Author.Tests.{eqb-true, eqb-false}
+use lib.ListN.{length, getD, set}
 use Rattle.lists.specs.Lists.{has}
-use Rattle.lists.proofs.Tests.{Decided, decided}
-use Rattle.grid.specs.Cells.{shows}
+use Rattle.lists.proofs.Joined.{map-range}
 use Rattle.fitting.specs.Boards.{Accepted}
 use Rattle.fitting.specs.Passes.{Found, nothing, openCells, markMines, pass}
+use Rattle.marks.specs.Written.{written}
+use Rattle.marks.proofs.WrittenCells.{written-none, written-next, written-length}
 use Rattle.flood.proofs.Reached.{flood-any-order}
 use Rattle.verdict.proofs.InPlaceAndEmpty.{SameNumbers, same-empty}
 
 -- ---- marks
 
--- as many cells
-pub marks-length : (p cs : List ℕ) → length (markMines p cs) ≡ length p
-marks-length p [] = refl
-marks-length p (c ∷ cs) = marks-length (set p c 11) cs ∙ length-set p c 11
-
--- a cell of the list shows 11, any other what it showed
-pub marks-show : (p cs : List ℕ) (c : ℕ) → c < length p → shows (markMines p cs) c ≡ cond (has cs c) 11 (shows p c)
-marks-show p [] c l = refl
-marks-show p (d ∷ cs) c l = marks-show (set p d 11) cs c (omega (arith, length-set p d 11)) ∙ go (decided (eqb c d))
-  where
-    either : (t : Bool) → _≡_ {A = ℕ} (cond t 11 11) 11
-    either true = refl
-    either false = refl
-
-    go : Decided (eqb c d) → cond (has cs c) 11 (shows (set p d 11) c) ≡ cond (has (d ∷ cs) c) 11 (shows p c)
-    go (inl e) =
-        let w : c ≡ d = eqb-true c d e in
-        let there : shows (set p d 11) c ≡ 11 = rw w (getD-set-same p d 11 255 (omega arith)) in
-        rw (e, there) (either (has cs c))
-    go (inr e) = rw (e, getD-set-other p d c 11 255 (eqb-false c d e))
+-- one after another they are written at all cells of the list
+pub marks-written : (p cs : List ℕ) → written 11 cs p ≡ markMines p cs
+marks-written p [] = written-none 11 p
+marks-written p (c ∷ cs) = written-next 11 c cs p ∙ marks-written (set p c 11) cs
 
 pub marks-any-order : (p cs ds : List ℕ) → SameNumbers cs ds → markMines p cs ≡ markMines p ds
+unfolding written
 marks-any-order p cs ds same =
-    ext-getD 255 (markMines p cs) (markMines p ds) (marks-length p cs ∙ sym (marks-length p ds))
-    (λ c l. let on : c < length p = omega (arith, marks-length p cs) in
-    marks-show p cs c on ∙ ap (λ (t : Bool). cond t 11 (shows p c)) (same c) ∙ sym (marks-show p ds c on))
+    sym (marks-written p cs)
+    ∙ map-range (λ c. cond (has cs c) 11 (getD p c 0)) (λ c. cond (has ds c) 11 (getD p c 0)) 0 (length p) (λ c _ _. rw (same c))
+    ∙ marks-written p ds
 
 -- ---- a pass
 
@@ -63,4 +44,4 @@ pub same-pass : (near : ℕ → List ℕ) (b : List ℕ) → Accepted near b →
 unfolding pass
 same-pass near b ok few p whole {f} {g} same =
     ap (λ (q : List ℕ). openCells near b q (f .safe)) (marks-any-order p (f .mines) (g .mines) (same .mines))
-    ∙ flood-any-order near b ok few (markMines p (g .mines)) (marks-length p (g .mines) ∙ whole) (f .safe) (g .safe) (λ c _. same .safe c)
+    ∙ flood-any-order near b ok few (markMines p (g .mines)) (ap length (sym (marks-written p (g .mines))) ∙ written-length 11 (g .mines) p ∙ whole) (f .safe) (g .safe) (λ c _. same .safe c)

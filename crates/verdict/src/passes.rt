@@ -1,18 +1,15 @@
 // The passes: each marks the mines and opens the safe cells that the rules find, until all safe cells are open or a pass finds nothing.
 use super::finding::find_cells;
 use flood::refresh_board;
-use grid::window::wide;
+use marks::write_at_cells;
 ghost use mathlib.Core.Path.{_≡_};
 ghost use Rattle.grid.specs.Cells.{cellOf};
 ghost use Rattle.grid.specs.Window.{neighbours, Board};
 ghost use mathlib.Core.Logic.{_≢_};
-ghost use Prim.Native.Nat.{_≤_, _<_, max};
-ghost use lib.Dec.{ltb};
-ghost use lib.ListN.{length, take, replicate};
-ghost use Rattle.lists.specs.Lists.{all};
-ghost use mathlib.Core.Bool.{true};
+ghost use Prim.Native.Nat.{_<_, max};
+ghost use lib.ListN.{length, replicate};
 ghost use Rattle.fitting.specs.Boards.{Accepted};
-ghost use Rattle.fitting.specs.Passes.{allOpen, markMines, judge};
+ghost use Rattle.fitting.specs.Passes.{allOpen, judge};
 ghost use Rattle.solutions.specs.ThreeRules.{threeRules};
 ghost use Rattle.verdict.specs.Findings.{endOf};
 
@@ -36,17 +33,6 @@ pub fn all_open(board: &[u8], position: &[u8]) -> bool
         }
     }
     true
-}
-
-// Marks the first `count` cells of a list as known mines.
-fn mark_mines(position: &mut [u8], list: &[u16; 1024], count: usize)
-    requires { ⌜ (length (now list) ≡ 1024) × (count ≤ 1024) ⌝ }
-    requires { ⌜ all (λ c. ltb c (length (now position))) (take count (now list)) ≡ true ⌝ }
-    ensures { λ _. ⌜ now (position .exit) ≡ markMines (now (position .entry)) (take count (now (list .entry))) ⌝ }
-{
-    for k in 0..count {
-        position[wide(list[k])] = 11;
-    }
 }
 
 // The cells of one position go to another.
@@ -107,8 +93,8 @@ pub fn run_passes(
                 rounds,
             };
         }
-        mark_mines(position, &mines, found.mine_count);
-        refresh_board(edgeless, rows, columns, board, position, &safe, found.safe_count);
+        write_at_cells(&mines, found.mine_count, 11, position);
+        refresh_board(rows, columns, board, position, &safe, found.safe_count);
         grade = greater(grade, found.grade);
         rounds += 1;
     }

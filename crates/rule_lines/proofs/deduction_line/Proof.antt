@@ -1,18 +1,18 @@
 -- `deduction_line` meets its contract: the call is made on the line's cells, at the front of their array, and what it leaves there is printed with its answer, which
--- can be read (`PrintableAnswers`). Rests on the laws of the answer to a line, `RuleWritten` and `Answered` of the crate lines. Assumes nothing.
+-- can be read (`ReadableCalls` of the crate deductions). Rests on the laws of the answer to a line, `RuleWritten` and `Answered` of the crate lines. Assumes nothing.
 use mathlib.Core.Path.{_≡_, sym, _∙_}
 use mathlib.Core.List.{List, _++_}
 use Prim.Native.Nat.{ℕ, _≤_}
 use native.Mathlib.Omega.{arith}
-use lib.ListN.{length, take, drop, length-take, length-append}
+use lib.ListN.{length, take, drop, replicate, length-take, length-append}
 use lib.Seq.{take-at}
 use borrow.Author.Needs.{needs}
 use borrow.Author.Tests.{not-true, not-false}
 use Rattle.deductions.specs.Answers.{seen}
+use Rattle.deductions.proofs.ReadableCalls.{call-readable}
 use Rattle.lines.proofs.CellsSoFar.{line-fits}
 use Rattle.lines.proofs.Answered.{unreadable-written}
 use Rattle.rule_lines.specs.Deductions.{calledOn, deductionText, deductionLine}
-use Rattle.rule_lines.proofs.PrintableAnswers.{called-printable}
 use Rattle.rule_lines.proofs.RuleWritten.{deduction-line-written}
 use Rattle.rule_lines.proofs.deduction_line.Statement.{statement}
 use Rattle.rule_lines.proofs.deduction_line.Tie as tie
@@ -22,18 +22,18 @@ fits : (c : tie.After-read-line) → c .read-line .result .len ≤ length (c .re
 fits c = rw (c .read-line .ensures) (line-fits _)
 
 -- where the call has answered: the line that was read, and the position that is left
-abbrev read : tie.After-call-rule → tie.After-read-line
+abbrev read : tie.After-deduce → tie.After-read-line
 read c = c .before .before .before .before .before .before .before
 
-abbrev position : tie.After-call-rule → List ℕ
-position c = c .call-rule .last .1 .1 .1 .0
+abbrev position : tie.After-deduce → List ℕ
+position c = c .deduce .last .1 .1 .1 .0
 
 -- it is as long as the line's cells
-same-cells : (c : tie.After-call-rule) → length (position c) ≡ read c .read-line .result .len
-same-cells c = c .call-rule .kept .1 .1 .1 .0 ∙ simp length-take (omega (arith, fits (read c)))
+same-cells : (c : tie.After-deduce) → length (position c) ≡ read c .read-line .result .len
+same-cells c = c .deduce .kept .1 .1 .1 .0 ∙ simp length-take (omega (arith, fits (read c)))
 
 -- so it is what stands in their place
-front : (c : tie.After-call-rule)
+front : (c : tie.After-deduce)
     → take (read c .read-line .result .len) (position c ++ drop (read c .read-line .result .len) (read c .read-line .result .cells)) ≡ position c
 front c = take-at (position c) _ _ (same-cells c)
 
@@ -59,17 +59,17 @@ returns c =
 array-borrow-prefix-cells : tie.Need-array-borrow-prefix-cells
 array-borrow-prefix-cells c = fits (c .before .before .before)
 
-slice-aggregate-call-rule : tie.Need-slice-aggregate-call-rule
-slice-aggregate-call-rule c = simp length-take (omega (arith, fits (c .before .before .before .before)))
+slice-aggregate-deduce : tie.Need-slice-aggregate-deduce
+slice-aggregate-deduce c = simp length-take (omega (arith, fits (c .before .before .before .before)))
 
-slice-aggregate-call-rule-2 : tie.Need-slice-aggregate-call-rule-2
-slice-aggregate-call-rule-2 c = search needs
+slice-aggregate-deduce-2 : tie.Need-slice-aggregate-deduce-2
+slice-aggregate-deduce-2 c = search needs
 
-slice-aggregate-call-rule-3 : tie.Need-slice-aggregate-call-rule-3
-slice-aggregate-call-rule-3 c = search needs
+slice-aggregate-deduce-3 : tie.Need-slice-aggregate-deduce-3
+slice-aggregate-deduce-3 c = search needs
 
-call-rule-requires : tie.Need-call-rule-requires
-call-rule-requires c κs = search needs
+deduce-requires : tie.Need-deduce-requires
+deduce-requires c κs = search needs
 
 array-share-prefix-cells : tie.Need-array-share-prefix-cells
 array-share-prefix-cells c = simp length-append (omega (arith, same-cells (c .before .before .before .before)))
@@ -86,7 +86,7 @@ slice-aggregate-put-deduction-3 c = search needs
 put-deduction-requires : tie.Need-put-deduction-requires
 put-deduction-requires c κs =
     let call = c .before .before .before .before .before .before .before in
-    rw (front call) (rw (call .call-rule .ensures) (called-printable _ _ _ _ _ _))
+    rw (front call) (rw (call .deduce .ensures .0) (call-readable (read call .before .before .before .args .rule) _ _ _ (replicate 1024 0) (replicate 1024 0)))
 
 same-length-2 : tie.Need-same-length-2
 same-length-2 c = search needs
@@ -96,7 +96,7 @@ returns-2 c =
     let call = c .before .before .before .before .before .before .before .before .before .before in
     let line = read call in
     deduction-line-written _ (line .read-line .result) (line .read-line .ensures) (not-false (line .read-line .result .readable) (call .before .before .before .before .before .if1 .left)) (line .before .before .before .args .rule)
-    (seen (call .call-rule .result) (position call) (call .call-rule .last .1 .1 .1 .1 .0) (call .call-rule .last .1 .1 .1 .1 .1 .0)) (call .call-rule .ensures)
+    (seen (call .deduce .result) (position call) (call .deduce .last .1 .1 .1 .1 .0) (call .deduce .last .1 .1 .1 .1 .1 .0)) (call .deduce .ensures .0)
     (rw (front call) at (c .before .before .put-deduction .ensures))
 
 pub deduction-line-spec : {M : Type 1} → statement M
@@ -109,10 +109,10 @@ deduction-line-spec =
     same-length
     returns
     array-borrow-prefix-cells
-    slice-aggregate-call-rule
-    slice-aggregate-call-rule-2
-    slice-aggregate-call-rule-3
-    call-rule-requires
+    slice-aggregate-deduce
+    slice-aggregate-deduce-2
+    slice-aggregate-deduce-3
+    deduce-requires
     array-share-prefix-cells
     slice-aggregate-put-deduction
     slice-aggregate-put-deduction-2

@@ -1,4 +1,4 @@
--- `answer::give_answer` meets its contract: the struct holds its lists, so that `put_list` stores them and `mark_cells` writes them, first the safe cells, then
+-- `answer::give_answer` meets its contract: the struct holds its lists, so that `put_list` stores them and `write_at_cells` writes them, first the safe cells, then
 -- the mines; a contradiction has empty lists, so that nothing is stored or written. Rests on Handed and on the contracts of the calls. Assumes nothing.
 use Prim.Native.Nat.{_+_, _≤_}
 use mathlib.Core.Path.{refl}
@@ -24,18 +24,18 @@ put-list-requires-2 c κs =
     let room : 0 + s .args .found .«mine_count» ≤ length (s .args .mines .now) = omega (arith, held-mines-room (s .pre)) in
     search needs
 
-mark-cells-requires : tie.Need-mark-cells-requires
-mark-cells-requires c κs =
+write-at-cells-requires : tie.Need-write-at-cells-requires
+write-at-cells-requires c κs =
     let s = c .before .before .before .before .before .before .before .before .before .before .before .before .before .before .before .before .before .before in
     let lists = held-lists (s .pre) _ refl in
     search needs
 
 -- the position is as long as it was
-mark-cells-requires-2 : tie.Need-mark-cells-requires-2
-mark-cells-requires-2 c κs =
+write-at-cells-requires-2 : tie.Need-write-at-cells-requires-2
+write-at-cells-requires-2 c κs =
     let safe-marked = c .before .before .before .before in
     let s = safe-marked .before .before .before .before .before .before .before .before .before .before .before .before .before .before .before .before .before .before .before in
-    let lists = held-lists (s .pre) (length (safe-marked .mark-cells .last .1 .1 .1 .0)) (safe-marked .mark-cells .kept .1 .1 .1 .0) in
+    let lists = held-lists (s .pre) (length (safe-marked .write-at-cells .last .1 .1 .1 .0)) (safe-marked .write-at-cells .kept .1 .1 .1 .0) in
     search needs
 
 told-requires : tie.Need-told-requires
@@ -58,7 +58,7 @@ returns c =
     let mines-listed = safe-marked .before .before .before .before .before in
     let safe-listed = mines-listed .before .before .before .before .before in
     let s = safe-listed .before .before .before .before .before .before .before .before .before in
-    rw (mines-marked .mark-cells2 .ensures, safe-marked .mark-cells .ensures, safe-listed .put-list .ensures, mines-listed .put-list2 .ensures)
+    rw (mines-marked .write-at-cells2 .ensures, safe-marked .write-at-cells .ensures, safe-listed .put-list .ensures, mines-listed .put-list2 .ensures)
     (gives-found (s .pre) (s .args .position .now) (s .args .safe .now) (s .args .mines .now) (c .told .result) (c .told .ensures))
 
 pub give-answer-spec : {M : Type 1} → statement M
@@ -67,8 +67,8 @@ give-answer-spec =
     (tie.spec
     put-list-requires
     put-list-requires-2
-    mark-cells-requires
-    mark-cells-requires-2
+    write-at-cells-requires
+    write-at-cells-requires-2
     told-requires
     same-length
     same-length-2

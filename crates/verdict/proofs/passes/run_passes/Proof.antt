@@ -106,8 +106,8 @@ returns-2 c =
     let begins = first-passes _ (s .pre .0 .0) (s .args .start) (on .0) (on .1) (s .pre .1 .0) (on .2) (begun (tested .before .before .before) .refresh-board .ensures) in
     rw (begins, found-nothing _ (s .pre .0 .0) (l .inv) (tested .before .before .loop-test .taken) shut (asked .find-cells .result) (asked .find-cells .ensures) (c .if2 .taken)) (refl, refl)
 
-mark-mines-requires : tie.Need-mark-mines-requires Inv-loop μ-loop
-mark-mines-requires c κs =
+write-at-cells-requires : tie.Need-write-at-cells-requires Inv-loop μ-loop
+write-at-cells-requires c κs =
     let asked = c .before .before .before .before .before .before in
     let l = asked .before .before .before .before .before .before .loop in
     let s = called (asked .before .before .before .before .before .before) in
@@ -122,7 +122,7 @@ refresh-board-requires-2 c κs =
     let s = called (asked .before .before .before .before .before .before) in
     let r = asked .find-cells .result in
     let found = asked .find-cells .ensures in (
-      (s .pre .0 .0, marked-board _ (s .pre .0 .0) (l .inv) _ (take (r .«mine_count») (r .mines)) (marked .mark-mines .ensures)),
+      (s .pre .0 .0, marked-board _ (s .pre .0 .0) (l .inv) _ (take (r .«mine_count») (r .mines)) (marked .write-at-cells .ensures)),
       (s .pre .1 .0, (found .few-safe, found .safe-long, found .safe-below)),
     )
 
@@ -155,7 +155,7 @@ loop-again c =
     let s = called (tested .before .before .before) in
     let shut = sym (tested .all-open .ensures) ∙ asked .before .before .if1 .left in
     found-cells _ (s .pre .0 .0) (l .inv) (tested .before .before .loop-test .taken) shut (asked .find-cells .result) (asked .find-cells .ensures)
-    (s .pre .1 .0) (marked .before .before .before .if2 .left) _ (marked .mark-mines .ensures) _ (flooded .refresh-board2 .ensures) _ (c .greater .ensures)
+    (s .pre .1 .0) (marked .before .before .before .if2 .left) _ (marked .write-at-cells .ensures) _ (flooded .refresh-board2 .ensures) _ (c .greater .ensures)
 
 all-open-requires-2 : tie.Need-all-open-requires-2 Inv-loop μ-loop
 all-open-requires-2 c κs =
@@ -197,7 +197,7 @@ run-passes-spec =
     same-length-3
     same-length-4
     returns-2
-    mark-mines-requires
+    write-at-cells-requires
     refresh-board-requires-2
     greater-requires
     add-rounds

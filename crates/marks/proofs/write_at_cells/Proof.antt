@@ -1,24 +1,24 @@
--- `passes::mark_mines` meets its contract. The loop's invariant: marking the cells of the list from place k on leads to where marking all of them leads. The
--- measure is what is left of the count. Rests on CellByCell. Assumes nothing.
-use mathlib.Core.Path.{_≡_, refl, sym, _∙_}
+-- `write_at_cells` meets its contract. The loop's invariant: the cells from place k on, written into the position as it is now, give what the whole list
+-- gives, written into the position at entry. The measure is what is left of the count. Rests on WrittenCells. Assumes nothing.
 use Prim.Native.Nat.{_-_, _≤_}
+use mathlib.Core.Path.{_≡_, refl, sym, _∙_}
 use native.Mathlib.Omega.{arith}
 use borrow.Author.Needs.{needs}
 use lib.ListN.{length, take, drop, length-set}
 use Rattle.lists.proofs.Counted.{rest-below}
-use Rattle.fitting.specs.Passes.{markMines}
-use Rattle.verdict.proofs.CellByCell.{mark-next, mark-end}
-use Rattle.verdict.proofs.passes.mark_mines.Statement.{statement}
-use Rattle.verdict.proofs.passes.mark_mines.Tie as tie
+use Rattle.marks.specs.Written.{written}
+use Rattle.marks.proofs.WrittenCells.{mark-next, mark-end}
+use Rattle.marks.proofs.write_at_cells.Statement.{statement}
+use Rattle.marks.proofs.write_at_cells.Tie as tie
 
 abbrev Inv-loop : tie.InvT-loop
-Inv-loop position₀ list count k₀ position k =
+Inv-loop list count value position₀ k₀ position k =
     (k ≤ count)
     × (length position ≡ length position₀)
-    × (markMines position (drop k (take count list)) ≡ markMines position₀ (take count list))
+    × (written value (drop k (take count list)) position ≡ written value (take count list) position₀)
 
 abbrev μ-loop : tie.MeasureT-loop
-μ-loop position₀ list count k₀ position k = count - k
+μ-loop list count value position₀ k₀ position k = count - k
 
 loop-holds : tie.Need-loop-holds Inv-loop μ-loop
 loop-holds c = (search needs, refl, refl)
@@ -56,8 +56,9 @@ loop-again c =
     let l = c .before .before .before .loop in
     let few : s .args .count ≤ length (s .args .list .now) = omega (arith, s .pre .0) in (
       search needs,
-      length-set (l .position) (c .wide .result) 11 ∙ l .inv .1,
-      mark-next (s .args .list .now) (s .args .count) (l .k) (l .position) (c .wide .result) few (c .before .before .loop-test .taken) (c .wide .ensures) ∙ l .inv .2,
+      length-set (l .position) (c .wide .result) (s .args .value) ∙ l .inv .1,
+      sym (mark-next (s .args .value) (s .args .list .now) (s .args .count) (l .k) (c .wide .result) few (c .before .before .loop-test .taken) (c .wide .ensures) (l .position))
+          ∙ l .inv .2,
     )
 
 same-length : tie.Need-same-length Inv-loop μ-loop
@@ -67,10 +68,10 @@ returns : tie.Need-returns Inv-loop μ-loop
 returns c =
     let s = c .before .before .before in
     let l = c .before .loop in
-    sym (mark-end (s .args .list .now) (s .args .count) (l .k) (l .position) (omega (arith, c .loop-test .left))) ∙ l .inv .2
+    sym (mark-end (s .args .value) (s .args .list .now) (s .args .count) (l .k) (omega (arith, c .loop-test .left)) (l .position)) ∙ l .inv .2
 
-pub mark-mines-spec : {M : Type 1} → statement M
-mark-mines-spec =
+pub write-at-cells-spec : {M : Type 1} → statement M
+write-at-cells-spec =
     tie.close
     (tie.spec
     Inv-loop

@@ -18,7 +18,7 @@ use Rattle.lists.proofs.Rearranged.{length-range}
 use Rattle.lists.proofs.Counted.{counted-none, rest-more}
 use Rattle.lists.proofs.Joined.{read-all, map-range}
 use Rattle.grid.specs.Cells.{shows}
-use Rattle.deductions.specs.Answers.{written}
+use Rattle.marks.specs.Written.{written}
 use Rattle.lists.proofs.ReadBack.{range-made}
 
 -- ---- one cell after another
