@@ -15,7 +15,7 @@ use Rattle.lists.specs.Lists.{empty}
 use Rattle.lists.proofs.Tests.{Decided, decided, clash}
 use Rattle.lists.proofs.Occurrences.{empty-nil}
 use Rattle.grid.specs.Cells.{shows}
-use Rattle.grid.specs.Window.{around, neighbours}
+use Rattle.grid.specs.Window.{flat, around, neighbours}
 use Rattle.grid.proofs.Neighbours.{neighbours-nodup, neighbours-few}
 use Rattle.refusals.specs.declared.Refusal.the-variants.{Size, Length, Cell}
 use Rattle.refusals.specs.declared.Tested.{Tested}
@@ -90,39 +90,39 @@ module _ (f : Found) (p s m : List ℕ) (r : DeductionAnswer) (p′ s′ m′ : 
   six-from-call Accepted e a k = ap numberOf (e ∙ after-contradiction f p s m k)
 
 -- so where a rule meets a contradiction only in a case, its call refuses with 6 only there
-module _ (rule : List Block → Found) (case : Type 0) (rows columns : ℕ) (p s m : List ℕ) (r : DeductionAnswer) (p′ s′ m′ : List ℕ)
-    (call : seen r p′ s′ m′ ≡ deduction rule rows columns p s m) where
-  call-refuses-only : (rule (frontier (neighbours rows columns) p) .contradiction ≡ true → case) → testedNumber (r .tested) ≡ 6 → TestsPass rows columns p s m × case
+module _ (rule : List Block → Found) (case : Type 0) (edgeless : Bool) (rows columns : ℕ) (p s m : List ℕ) (r : DeductionAnswer) (p′ s′ m′ : List ℕ)
+    (call : seen r p′ s′ m′ ≡ deduction rule edgeless rows columns p s m) where
+  call-refuses-only : (rule (frontier (neighbours edgeless rows columns) p) .contradiction ≡ true → case) → testedNumber (r .tested) ≡ 6 → TestsPass rows columns p s m × case
   call-refuses-only only a =
       let (accepted, k) =
-      six-from-rule (rule (frontier (neighbours rows columns) p)) p s m r p′ s′ m′ (deductionTested rows columns p (length s) (length m))
+      six-from-rule (rule (frontier (neighbours edgeless rows columns) p)) p s m r p′ s′ m′ (deductionTested rows columns p (length s) (length m))
       (tests-never-six rows columns p (length s) (length m)) call a in
       (accepted, only k)
 
   -- and where exactly in a case, exactly there
-  call-refuses : (rule (frontier (neighbours rows columns) p) .contradiction ≡ true) ↔ case → (testedNumber (r .tested) ≡ 6) ↔ (TestsPass rows columns p s m × case)
+  call-refuses : (rule (frontier (neighbours edgeless rows columns) p) .contradiction ≡ true) ↔ case → (testedNumber (r .tested) ≡ 6) ↔ (TestsPass rows columns p s m × case)
   call-refuses exactly = (
     call-refuses-only (exactly .0),
-    λ (accepted, k). six-from-call (rule (frontier (neighbours rows columns) p)) p s m r p′ s′ m′ (deductionTested rows columns p (length s) (length m)) call accepted (exactly .1 k),
+    λ (accepted, k). six-from-call (rule (frontier (neighbours edgeless rows columns) p)) p s m r p′ s′ m′ (deductionTested rows columns p (length s) (length m)) call accepted (exactly .1 k),
   )
 
 -- ---- the three rules on a board
 
-module _ (rows columns : ℕ) (p : List ℕ) where
+module _ (edgeless : Bool) (rows columns : ℕ) (p : List ℕ) where
   abbrev near : ℕ → List ℕ
-  near = neighbours rows columns
+  near = neighbours edgeless rows columns
 
   -- the direct rule meets a contradiction exactly where an open cell with a closed neighbour shows too few
   direct-meets : (direct (frontier near p) .contradiction ≡ true) ↔ (isContradictoryAt near p ≡ true)
   direct-meets = (λ k. sym at ∙ k, λ k. at ∙ k)
     where
       at : direct (frontier near p) .contradiction ≡ isContradictoryAt near p
-      at = direct-contradiction-at near p (neighbours-nodup rows columns) (neighbours-few rows columns)
+      at = direct-contradiction-at near p (neighbours-nodup edgeless rows columns) (neighbours-few edgeless rows columns)
 
   -- a placing solves every equation
   placing-solves : (f : ℕ → Bool) → Placing near p f
       → (e : BlockEquation) → List·Memᴰ e (allEquations (frontier near p)) → Holds f (says e)
-  placing-solves = sources-solve near p (neighbours-nodup rows columns) (neighbours-few rows columns)
+  placing-solves = sources-solve near p (neighbours-nodup edgeless rows columns) (neighbours-few edgeless rows columns)
 
   -- so there is none where the direct rule meets a contradiction: where solve_direct refuses with 6, solve_enumerate does
   pub contradictory-no-placing : isContradictoryAt near p ≡ true → NoPlacing near p
@@ -137,15 +137,15 @@ module _ (rows columns : ℕ) (p : List ℕ) where
 
 -- ---- the calls
 
-module _ (rows columns : ℕ) (p s m : List ℕ) (r : DeductionAnswer) (p′ s′ m′ : List ℕ) where
-  pub call-refuses-by-rule : (rule : Rule) → seen r p′ s′ m′ ≡ deduction (ruleOn rule) rows columns p s m → Refuses rule rows columns p s m (testedNumber (r .tested))
+module _ (edgeless : Bool) (rows columns : ℕ) (p s m : List ℕ) (r : DeductionAnswer) (p′ s′ m′ : List ℕ) where
+  pub call-refuses-by-rule : (rule : Rule) → seen r p′ s′ m′ ≡ deduction (ruleOn rule) edgeless rows columns p s m → Refuses rule edgeless rows columns p s m (testedNumber (r .tested))
   call-refuses-by-rule Direct call =
-      call-refuses direct (isContradictoryAt (neighbours rows columns) p ≡ true) rows columns p s m r p′ s′ m′ call (direct-meets rows columns p)
+      call-refuses direct (isContradictoryAt (neighbours edgeless rows columns) p ≡ true) edgeless rows columns p s m r p′ s′ m′ call (direct-meets edgeless rows columns p)
   call-refuses-by-rule Minus call =
-      call-refuses-only subtraction (NoPlacing (neighbours rows columns) p) rows columns p s m r p′ s′ m′ call (minus-meets rows columns p)
+      call-refuses-only subtraction (NoPlacing (neighbours edgeless rows columns) p) edgeless rows columns p s m r p′ s′ m′ call (minus-meets edgeless rows columns p)
   call-refuses-by-rule Enumerate call =
-      call-refuses enumerated (NoPlacing (neighbours rows columns) p) rows columns p s m r p′ s′ m′ call
-      (enumeration-contradiction-at (neighbours rows columns) p (neighbours-nodup rows columns) (neighbours-few rows columns))
+      call-refuses enumerated (NoPlacing (neighbours edgeless rows columns) p) edgeless rows columns p s m r p′ s′ m′ call
+      (enumeration-contradiction-at (neighbours edgeless rows columns) p (neighbours-nodup edgeless rows columns) (neighbours-few edgeless rows columns))
 
 -- ---- placings and layouts
 
@@ -164,22 +164,22 @@ module _ (near : ℕ → List ℕ) (p : List ℕ) where
 -- ---- small positions
 
 -- of the positions 12.1 to 12.7 of SPECIFICATION the direct rule refuses the third alone
-pub direct-cases : (isContradictoryAt (neighbours 1 3) (1 ∷ 10 ∷ 10 ∷ []) ≡ false)
-    × (isContradictoryAt (neighbours 1 2) (0 ∷ 10 ∷ []) ≡ false)
-    × (isContradictoryAt (neighbours 1 3) (11 ∷ 0 ∷ 10 ∷ []) ≡ true)
-    × (isContradictoryAt (neighbours 1 3) (10 ∷ 1 ∷ 10 ∷ []) ≡ false)
-    × (isContradictoryAt (neighbours 1 5) (10 ∷ 1 ∷ 10 ∷ 1 ∷ 10 ∷ []) ≡ false)
-    × (isContradictoryAt (neighbours 2 3) (10 ∷ 10 ∷ 10 ∷ 1 ∷ 1 ∷ 1 ∷ []) ≡ false)
+pub direct-cases : (isContradictoryAt (neighbours flat 1 3) (1 ∷ 10 ∷ 10 ∷ []) ≡ false)
+    × (isContradictoryAt (neighbours flat 1 2) (0 ∷ 10 ∷ []) ≡ false)
+    × (isContradictoryAt (neighbours flat 1 3) (11 ∷ 0 ∷ 10 ∷ []) ≡ true)
+    × (isContradictoryAt (neighbours flat 1 3) (10 ∷ 1 ∷ 10 ∷ []) ≡ false)
+    × (isContradictoryAt (neighbours flat 1 5) (10 ∷ 1 ∷ 10 ∷ 1 ∷ 10 ∷ []) ≡ false)
+    × (isContradictoryAt (neighbours flat 2 3) (10 ∷ 10 ∷ 10 ∷ 1 ∷ 1 ∷ 1 ∷ []) ≡ false)
 unfolding around neighbours sources
 direct-cases = (refl, refl, refl, refl, refl, refl)
 
 -- in the third no placing is left either
-pub third-no-placing : NoPlacing (neighbours 1 3) (11 ∷ 0 ∷ 10 ∷ [])
+pub third-no-placing : NoPlacing (neighbours flat 1 3) (11 ∷ 0 ∷ 10 ∷ [])
 unfolding around neighbours
 third-no-placing f h = omega (arith, h 1 refl)
 
 -- in the fourth a mine at the first cell will do
-pub fourth-placing : Placing (neighbours 1 3) (10 ∷ 1 ∷ 10 ∷ []) (eqb 0)
+pub fourth-placing : Placing (neighbours flat 1 3) (10 ∷ 1 ∷ 10 ∷ []) (eqb 0)
 unfolding around neighbours
 fourth-placing zero h = clash false h refl
 fourth-placing (suc zero) h = refl
@@ -187,10 +187,10 @@ fourth-placing (suc (suc zero)) h = clash false h refl
 fourth-placing (suc (suc (suc d))) h = clash false h refl
 
 -- three closed cells between a 1 and a 2: no placing, which the direct rule does not see
-pub between-no-placing : NoPlacing (neighbours 3 3) (12 ∷ 1 ∷ 12 ∷ 10 ∷ 10 ∷ 10 ∷ 12 ∷ 2 ∷ 12 ∷ [])
+pub between-no-placing : NoPlacing (neighbours flat 3 3) (12 ∷ 1 ∷ 12 ∷ 10 ∷ 10 ∷ 10 ∷ 12 ∷ 2 ∷ 12 ∷ [])
 unfolding around neighbours
 between-no-placing f h = omega (arith, h 1 refl, h 7 refl)
 
-pub between-unseen : isContradictoryAt (neighbours 3 3) (12 ∷ 1 ∷ 12 ∷ 10 ∷ 10 ∷ 10 ∷ 12 ∷ 2 ∷ 12 ∷ []) ≡ false
+pub between-unseen : isContradictoryAt (neighbours flat 3 3) (12 ∷ 1 ∷ 12 ∷ 10 ∷ 10 ∷ 10 ∷ 12 ∷ 2 ∷ 12 ∷ []) ≡ false
 unfolding around neighbours sources
 between-unseen = refl

@@ -40,31 +40,31 @@ stored-among l lent after n room counted stored c h =
 
 -- ---- the call
 
-module _ (rows columns : ℕ) (p s m : List ℕ) (r : DeductionAnswer) (p′ s′ m′ : List ℕ) (call : seen r p′ s′ m′ ≡ solveEnumerate rows columns p s m)
-    (tests : deductionTested rows columns p (length s) (length m) ≡ Accepted) (layout : List Bool) (fit : Fits (neighbours rows columns) p layout) where
+module _ (edgeless : Bool) (rows columns : ℕ) (p s m : List ℕ) (r : DeductionAnswer) (p′ s′ m′ : List ℕ) (call : seen r p′ s′ m′ ≡ solveEnumerate edgeless rows columns p s m)
+    (tests : deductionTested rows columns p (length s) (length m) ≡ Accepted) (layout : List Bool) (fit : Fits (neighbours edgeless rows columns) p layout) where
   abbrev found : Found
-  found = enumerated (frontier (neighbours rows columns) p)
+  found = enumerated (frontier (neighbours edgeless rows columns) p)
 
-  sound : SoundAt (neighbours rows columns) p found
-  sound = sound-on Enumerate rows columns p
+  sound : SoundAt (neighbours edgeless rows columns) p found
+  sound = sound-on Enumerate edgeless rows columns p
 
   accepted : AcceptedDeduction rows columns p (length s) (length m)
   accepted = accepted-deduction rows columns p (length s) (length m) tests
 
   safe-fits : length (found .safe) ≤ length s
-  safe-fits = omega (arith, listed-few (neighbours rows columns) p (found .safe) (sound .safe-among), accepted .position .board .whole, accepted .safe-room)
+  safe-fits = omega (arith, listed-few (neighbours edgeless rows columns) p (found .safe) (sound .safe-among), accepted .position .board .whole, accepted .safe-room)
 
   mines-fit : length (found .mines) ≤ length m
-  mines-fit = omega (arith, listed-few (neighbours rows columns) p (found .mines) (sound .mines-among), accepted .position .board .whole, accepted .mines-room)
+  mines-fit = omega (arith, listed-few (neighbours edgeless rows columns) p (found .mines) (sound .mines-among), accepted .position .board .whole, accepted .mines-room)
 
   -- what the caller sees is what enumeration finds
   sees-found : seen r p′ s′ m′ ≡ afterFound found p s m
   sees-found = rw tests at call
 
   -- so the call is complete
-  pub enumerate-call-complete : CompleteCall (neighbours rows columns) p (testedNumber (r .tested)) (r .safe) (r .mines) s′ m′
+  pub enumerate-call-complete : CompleteCall (neighbours edgeless rows columns) p (testedNumber (r .tested)) (r .safe) (r .mines) s′ m′
   enumerate-call-complete =
-      let whole = enumeration-complete-at (neighbours rows columns) (neighbours-nodup rows columns) (neighbours-few rows columns) p layout fit in
+      let whole = enumeration-complete-at (neighbours edgeless rows columns) (neighbours-nodup edgeless rows columns) (neighbours-few edgeless rows columns) p layout fit in
       let told = sees-found ∙ after-lists found p s m (sound .no-contradiction layout fit) in
       record {
         is-accepted = ap (λ (v : Seen). testedNumber (v .answer .tested)) told;

@@ -75,24 +75,24 @@ left-fits Direct = direct-left-fits
 left-fits Minus = subtraction-left-fits
 left-fits Enumerate = none-left-fits
 
-module _ (rule : Rule) (rows columns : ℕ) (p s m : List ℕ) where
-  pub call-readable : Readable (deduction (ruleOn rule) rows columns p s m)
+module _ (rule : Rule) (edgeless : Bool) (rows columns : ℕ) (p s m : List ℕ) where
+  pub call-readable : Readable (deduction (ruleOn rule) edgeless rows columns p s m)
   call-readable = go (deductionTested rows columns p (length s) (length m)) refl
     where
       near : ℕ → List ℕ
-      near = neighbours rows columns
+      near = neighbours edgeless rows columns
 
       finds : Found
       finds = ruleOn rule (frontier near p)
 
       accepted-readable : AcceptedDeduction rows columns p (length s) (length m) → Readable (afterFound finds p s m)
       accepted-readable a =
-          let listed = sound-on rule rows columns p in
+          let listed = sound-on rule edgeless rows columns p in
           let safe = listed-few near p (finds .safe) (listed .safe-among) in
           let mines = listed-few near p (finds .mines) (listed .mines-among) in
           found-readable finds p s m
           (omega (arith, a .position .board .whole, a .safe-room)) (omega (arith, a .position .board .whole, a .mines-room))
-          (left-fits rule (frontier near p) (frontier-fits rows columns p (a .position)))
+          (left-fits rule (frontier near p) (frontier-fits edgeless rows columns p (a .position)))
 
       go : (t : Tested) → deductionTested rows columns p (length s) (length m) ≡ t → Readable (afterTests t finds p s m)
       go Accepted e = accepted-readable (accepted-deduction rows columns p (length s) (length m) e)

@@ -225,10 +225,10 @@ module _ (near : ℕ → List ℕ) (f : Found) (p s m : List ℕ) (r : Deduction
 
 -- ---- a call of any rule
 
-module _ (rule : Rule) (rows columns : ℕ) (p s m : List ℕ) (r : DeductionAnswer) (p′ s′ m′ : List ℕ)
-    (call : seen r p′ s′ m′ ≡ deduction (ruleOn rule) rows columns p s m) where
+module _ (rule : Rule) (edgeless : Bool) (rows columns : ℕ) (p s m : List ℕ) (r : DeductionAnswer) (p′ s′ m′ : List ℕ)
+    (call : seen r p′ s′ m′ ≡ deduction (ruleOn rule) edgeless rows columns p s m) where
   abbrev near : ℕ → List ℕ
-  near = neighbours rows columns
+  near = neighbours edgeless rows columns
 
   abbrev found : Found
   found = ruleOn rule (frontier near p)
@@ -250,9 +250,9 @@ module _ (rule : Rule) (rows columns : ℕ) (p s m : List ℕ) (r : DeductionAns
     mines-room : length p ≤ length m
     mines-room = omega (arith, facts .position .board .whole, facts .mines-room)
 
-  pub call-sound : SoundCall rows columns p s m (testedNumber (r .tested)) (r .safe) (r .mines) p′ s′ m′
+  pub call-sound : SoundCall edgeless rows columns p s m (testedNumber (r .tested)) (r .safe) (r .mines) p′ s′ m′
   call-sound =
-      let sound = sound-on rule rows columns p in
+      let sound = sound-on rule edgeless rows columns p in
       let zero : testedNumber (r .tested) ≡ 0 → r .tested ≡ Accepted = zero-accepted (r .tested) in
       record {
         lists-true = λ n. let a = zero n in lists-are-true near found p s m r p′ s′ m′ sound (safe-room a) (mines-room a) (lists a);

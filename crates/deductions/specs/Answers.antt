@@ -73,15 +73,15 @@ afterTests Accepted f p s m = afterFound f p s m
 afterTests (Refused r) f p s m = refused r p s m
 
 -- a rule called on a position: it reads a fresh frontier
-abbrev pub deduction : (List Block → Found) → ℕ → ℕ → List ℕ → List ℕ → List ℕ → Seen
-deduction rule rows columns p s m =
-    afterTests (deductionTested rows columns p (length s) (length m)) (rule (frontier (neighbours rows columns) p)) p s m
+abbrev pub deduction : (List Block → Found) → Bool → ℕ → ℕ → List ℕ → List ℕ → List ℕ → Seen
+deduction rule edgeless rows columns p s m =
+    afterTests (deductionTested rows columns p (length s) (length m)) (rule (frontier (neighbours edgeless rows columns) p)) p s m
 
-abbrev pub solveDirect : ℕ → ℕ → List ℕ → List ℕ → List ℕ → Seen
-solveDirect rows columns p s m = deduction direct rows columns p s m
+abbrev pub solveDirect : Bool → ℕ → ℕ → List ℕ → List ℕ → List ℕ → Seen
+solveDirect edgeless rows columns p s m = deduction direct edgeless rows columns p s m
 
-abbrev pub solveMinus : ℕ → ℕ → List ℕ → List ℕ → List ℕ → Seen
-solveMinus rows columns p s m = deduction subtraction rows columns p s m
+abbrev pub solveMinus : Bool → ℕ → ℕ → List ℕ → List ℕ → List ℕ → Seen
+solveMinus edgeless rows columns p s m = deduction subtraction edgeless rows columns p s m
 
-abbrev pub solveEnumerate : ℕ → ℕ → List ℕ → List ℕ → List ℕ → Seen
-solveEnumerate rows columns p s m = deduction enumerated rows columns p s m
+abbrev pub solveEnumerate : Bool → ℕ → ℕ → List ℕ → List ℕ → List ℕ → Seen
+solveEnumerate edgeless rows columns p s m = deduction enumerated edgeless rows columns p s m

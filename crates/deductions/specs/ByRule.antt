@@ -25,15 +25,15 @@ ruleOn Minus = subtraction
 ruleOn Enumerate = enumerated
 
 -- enumeration is complete where the tests pass and some layout fits; of the other rules nothing is said
-abbrev pub Completes : Rule → ℕ → ℕ → List ℕ → List ℕ → List ℕ → ℕ → ℕ → ℕ → List ℕ → List ℕ → Type 0
-Completes Direct rows columns p s m number safe mines s′ m′ = Unit {0}
-Completes Minus rows columns p s m number safe mines s′ m′ = Unit {0}
-Completes Enumerate rows columns p s m number safe mines s′ m′ =
-    TestsPass rows columns p s m → (layout : List Bool) → Fits (neighbours rows columns) p layout
-    → CompleteCall (neighbours rows columns) p number safe mines s′ m′
+abbrev pub Completes : Rule → Bool → ℕ → ℕ → List ℕ → List ℕ → List ℕ → ℕ → ℕ → ℕ → List ℕ → List ℕ → Type 0
+Completes Direct edgeless rows columns p s m number safe mines s′ m′ = Unit {0}
+Completes Minus edgeless rows columns p s m number safe mines s′ m′ = Unit {0}
+Completes Enumerate edgeless rows columns p s m number safe mines s′ m′ =
+    TestsPass rows columns p s m → (layout : List Bool) → Fits (neighbours edgeless rows columns) p layout
+    → CompleteCall (neighbours edgeless rows columns) p number safe mines s′ m′
 
 -- where the call refuses with 6
-abbrev pub Refuses : Rule → ℕ → ℕ → List ℕ → List ℕ → List ℕ → ℕ → Type 0
+abbrev pub Refuses : Rule → Bool → ℕ → ℕ → List ℕ → List ℕ → List ℕ → ℕ → Type 0
 Refuses Direct = DirectRefuses
 Refuses Minus = MinusRefuses
 Refuses Enumerate = EnumerateRefuses

@@ -59,19 +59,19 @@ pub record AllKept (p s m p′ s′ m′ : List ℕ) : Type 0 where
   pub mines-kept : m′ ≡ m
 
 -- all that holds of a call of any of the three rules, on a board of so many rows and columns
-pub record SoundCall (rows columns : ℕ) (p s m : List ℕ) (number safe mines : ℕ) (p′ s′ m′ : List ℕ) : Type 0 where
+pub record SoundCall (edgeless : Bool) (rows columns : ℕ) (p s m : List ℕ) (number safe mines : ℕ) (p′ s′ m′ : List ℕ) : Type 0 where
   -- each deduction of an accepted call holds in every layout that fits
-  pub lists-true : number ≡ 0 → ListsTrue (neighbours rows columns) p safe mines s′ m′
+  pub lists-true : number ≡ 0 → ListsTrue (neighbours edgeless rows columns) p safe mines s′ m′
   -- it marks the listed cells and writes nothing else
   pub only-marked : number ≡ 0 → OnlyMarked p s m safe mines p′ s′ m′
   -- where some layout fits no cell stands in both lists, so that each listed safe cell shows 12
-  pub at-safe : number ≡ 0 → (layout : List Bool) → Fits (neighbours rows columns) p layout → (i : ℕ) → i < safe → shows p′ (getD s′ i 0) ≡ 12
+  pub at-safe : number ≡ 0 → (layout : List Bool) → Fits (neighbours edgeless rows columns) p layout → (i : ℕ) → i < safe → shows p′ (getD s′ i 0) ≡ 12
   -- a refused call leaves every buffer untouched
   pub all-kept : number ≢ 0 → AllKept p s m p′ s′ m′
   -- what the tests refuse is refused, with their number
   pub refuses : (x : Refusal) → deductionTested rows columns p (length s) (length m) ≡ Refused x → number ≡ refusalNumber x
   -- where the tests pass and some layout fits, the call is accepted: no rule finds such a position contradicted
-  pub accepts : deductionTested rows columns p (length s) (length m) ≡ Accepted → (layout : List Bool) → Fits (neighbours rows columns) p layout → number ≡ 0
+  pub accepts : deductionTested rows columns p (length s) (length m) ≡ Accepted → (layout : List Bool) → Fits (neighbours edgeless rows columns) p layout → number ≡ 0
 
 -- the cell c is one of the first n entries of a list
 abbrev pub AmongFirst : ℕ → List ℕ → ℕ → Type 0

@@ -28,13 +28,13 @@ abbrev pub TestsPass : ℕ → ℕ → List ℕ → List ℕ → List ℕ → Ty
 TestsPass rows columns p s m = deductionTested rows columns p (length s) (length m) ≡ Accepted
 
 -- solve_direct refuses with 6 exactly where the tests pass and an open cell with a closed neighbour shows fewer than the mines known and found beside it
-abbrev pub DirectRefuses : ℕ → ℕ → List ℕ → List ℕ → List ℕ → ℕ → Type 0
-DirectRefuses rows columns p s m number = (number ≡ 6) ↔ (TestsPass rows columns p s m × (isContradictoryAt (neighbours rows columns) p ≡ true))
+abbrev pub DirectRefuses : Bool → ℕ → ℕ → List ℕ → List ℕ → List ℕ → ℕ → Type 0
+DirectRefuses edgeless rows columns p s m number = (number ≡ 6) ↔ (TestsPass rows columns p s m × (isContradictoryAt (neighbours edgeless rows columns) p ≡ true))
 
 -- solve_minus only where the tests pass and no mines on the closed cells give each open cell with a closed neighbour its number
-abbrev pub MinusRefuses : ℕ → ℕ → List ℕ → List ℕ → List ℕ → ℕ → Type 0
-MinusRefuses rows columns p s m number = number ≡ 6 → TestsPass rows columns p s m × NoPlacing (neighbours rows columns) p
+abbrev pub MinusRefuses : Bool → ℕ → ℕ → List ℕ → List ℕ → List ℕ → ℕ → Type 0
+MinusRefuses edgeless rows columns p s m number = number ≡ 6 → TestsPass rows columns p s m × NoPlacing (neighbours edgeless rows columns) p
 
 -- solve_enumerate exactly there
-abbrev pub EnumerateRefuses : ℕ → ℕ → List ℕ → List ℕ → List ℕ → ℕ → Type 0
-EnumerateRefuses rows columns p s m number = (number ≡ 6) ↔ (TestsPass rows columns p s m × NoPlacing (neighbours rows columns) p)
+abbrev pub EnumerateRefuses : Bool → ℕ → ℕ → List ℕ → List ℕ → List ℕ → ℕ → Type 0
+EnumerateRefuses edgeless rows columns p s m number = (number ≡ 6) ↔ (TestsPass rows columns p s m × NoPlacing (neighbours edgeless rows columns) p)

@@ -58,22 +58,23 @@ fn run_rule(rule: Rule, set: BlockSet) -> RuleAnswer
 // A rule called on a position: refusals 1 to 3, then 6.
 pub fn deduce(
     rule: Rule,
+    edgeless: bool,
     rows: usize,
     columns: usize,
     position: &mut [u8],
     safe: &mut [u16],
     mines: &mut [u16],
 ) -> DeductionAnswer
-    ensures { λ r. ⌜ seen r (now (position .exit)) (now (safe .exit)) (now (mines .exit)) ≡ deduction (ruleOn rule) rows columns (now (position .entry)) (now (safe .entry)) (now (mines .entry)) ⌝ }
-    ensures sound { λ r. ⌜ SoundCall rows columns (now (position .entry)) (now (safe .entry)) (now (mines .entry))
+    ensures { λ r. ⌜ seen r (now (position .exit)) (now (safe .exit)) (now (mines .exit)) ≡ deduction (ruleOn rule) edgeless rows columns (now (position .entry)) (now (safe .entry)) (now (mines .entry)) ⌝ }
+    ensures sound { λ r. ⌜ SoundCall edgeless rows columns (now (position .entry)) (now (safe .entry)) (now (mines .entry))
         (testedNumber (r .tested)) (r .safe) (r .mines) (now (position .exit)) (now (safe .exit)) (now (mines .exit)) ⌝ }
-    ensures complete { λ r. ⌜ Completes rule rows columns (now (position .entry)) (now (safe .entry)) (now (mines .entry))
+    ensures complete { λ r. ⌜ Completes rule edgeless rows columns (now (position .entry)) (now (safe .entry)) (now (mines .entry))
         (testedNumber (r .tested)) (r .safe) (r .mines) (now (safe .exit)) (now (mines .exit)) ⌝ }
-    ensures six { λ r. ⌜ Refuses rule rows columns (now (position .entry)) (now (safe .entry)) (now (mines .entry)) (testedNumber (r .tested)) ⌝ }
+    ensures six { λ r. ⌜ Refuses rule edgeless rows columns (now (position .entry)) (now (safe .entry)) (now (mines .entry)) (testedNumber (r .tested)) ⌝ }
 {
     match test_deduction(rows, columns, position, safe.len(), mines.len()) {
         Tested::Accepted => {
-            let found = run_rule(rule, read_blocks(rows, columns, position));
+            let found = run_rule(rule, read_blocks(edgeless, rows, columns, position));
             give_answer(found, position, safe, mines)
         }
         Tested::Refused(refusal) => refused(refusal),
@@ -82,51 +83,54 @@ pub fn deduce(
 
 // solve_direct on a position: refusals 1 to 3, then 6.
 pub fn solve_direct(
+    edgeless: bool,
     rows: usize,
     columns: usize,
     position: &mut [u8],
     safe: &mut [u16],
     mines: &mut [u16],
 ) -> DeductionAnswer
-    ensures { λ r. ⌜ seen r (now (position .exit)) (now (safe .exit)) (now (mines .exit)) ≡ solveDirect rows columns (now (position .entry)) (now (safe .entry)) (now (mines .entry)) ⌝ }
-    ensures sound { λ r. ⌜ SoundCall rows columns (now (position .entry)) (now (safe .entry)) (now (mines .entry))
+    ensures { λ r. ⌜ seen r (now (position .exit)) (now (safe .exit)) (now (mines .exit)) ≡ solveDirect edgeless rows columns (now (position .entry)) (now (safe .entry)) (now (mines .entry)) ⌝ }
+    ensures sound { λ r. ⌜ SoundCall edgeless rows columns (now (position .entry)) (now (safe .entry)) (now (mines .entry))
         (testedNumber (r .tested)) (r .safe) (r .mines) (now (position .exit)) (now (safe .exit)) (now (mines .exit)) ⌝ }
-    ensures six { λ r. ⌜ DirectRefuses rows columns (now (position .entry)) (now (safe .entry)) (now (mines .entry)) (testedNumber (r .tested)) ⌝ }
+    ensures six { λ r. ⌜ DirectRefuses edgeless rows columns (now (position .entry)) (now (safe .entry)) (now (mines .entry)) (testedNumber (r .tested)) ⌝ }
 {
-    deduce(Rule::Direct, rows, columns, position, safe, mines)
+    deduce(Rule::Direct, edgeless, rows, columns, position, safe, mines)
 }
 
 // solve_minus on a position: refusals 1 to 3, then 6.
 pub fn solve_minus(
+    edgeless: bool,
     rows: usize,
     columns: usize,
     position: &mut [u8],
     safe: &mut [u16],
     mines: &mut [u16],
 ) -> DeductionAnswer
-    ensures { λ r. ⌜ seen r (now (position .exit)) (now (safe .exit)) (now (mines .exit)) ≡ solveMinus rows columns (now (position .entry)) (now (safe .entry)) (now (mines .entry)) ⌝ }
-    ensures sound { λ r. ⌜ SoundCall rows columns (now (position .entry)) (now (safe .entry)) (now (mines .entry))
+    ensures { λ r. ⌜ seen r (now (position .exit)) (now (safe .exit)) (now (mines .exit)) ≡ solveMinus edgeless rows columns (now (position .entry)) (now (safe .entry)) (now (mines .entry)) ⌝ }
+    ensures sound { λ r. ⌜ SoundCall edgeless rows columns (now (position .entry)) (now (safe .entry)) (now (mines .entry))
         (testedNumber (r .tested)) (r .safe) (r .mines) (now (position .exit)) (now (safe .exit)) (now (mines .exit)) ⌝ }
-    ensures six { λ r. ⌜ MinusRefuses rows columns (now (position .entry)) (now (safe .entry)) (now (mines .entry)) (testedNumber (r .tested)) ⌝ }
+    ensures six { λ r. ⌜ MinusRefuses edgeless rows columns (now (position .entry)) (now (safe .entry)) (now (mines .entry)) (testedNumber (r .tested)) ⌝ }
 {
-    deduce(Rule::Minus, rows, columns, position, safe, mines)
+    deduce(Rule::Minus, edgeless, rows, columns, position, safe, mines)
 }
 
 // solve_enumerate on a position: refusals 1 to 3, then 6.
 pub fn solve_enumerate(
+    edgeless: bool,
     rows: usize,
     columns: usize,
     position: &mut [u8],
     safe: &mut [u16],
     mines: &mut [u16],
 ) -> DeductionAnswer
-    ensures { λ r. ⌜ seen r (now (position .exit)) (now (safe .exit)) (now (mines .exit)) ≡ solveEnumerate rows columns (now (position .entry)) (now (safe .entry)) (now (mines .entry)) ⌝ }
-    ensures sound { λ r. ⌜ SoundCall rows columns (now (position .entry)) (now (safe .entry)) (now (mines .entry))
+    ensures { λ r. ⌜ seen r (now (position .exit)) (now (safe .exit)) (now (mines .exit)) ≡ solveEnumerate edgeless rows columns (now (position .entry)) (now (safe .entry)) (now (mines .entry)) ⌝ }
+    ensures sound { λ r. ⌜ SoundCall edgeless rows columns (now (position .entry)) (now (safe .entry)) (now (mines .entry))
         (testedNumber (r .tested)) (r .safe) (r .mines) (now (position .exit)) (now (safe .exit)) (now (mines .exit)) ⌝ }
     ensures complete { λ r. ⌜ (deductionTested rows columns (now (position .entry)) (length (now (safe .entry))) (length (now (mines .entry))) ≡ Accepted
-        → (layout : List Bool) → Fits (neighbours rows columns) (now (position .entry)) layout
-        → CompleteCall (neighbours rows columns) (now (position .entry)) (testedNumber (r .tested)) (r .safe) (r .mines) (now (safe .exit)) (now (mines .exit))) ⌝ }
-    ensures six { λ r. ⌜ EnumerateRefuses rows columns (now (position .entry)) (now (safe .entry)) (now (mines .entry)) (testedNumber (r .tested)) ⌝ }
+        → (layout : List Bool) → Fits (neighbours edgeless rows columns) (now (position .entry)) layout
+        → CompleteCall (neighbours edgeless rows columns) (now (position .entry)) (testedNumber (r .tested)) (r .safe) (r .mines) (now (safe .exit)) (now (mines .exit))) ⌝ }
+    ensures six { λ r. ⌜ EnumerateRefuses edgeless rows columns (now (position .entry)) (now (safe .entry)) (now (mines .entry)) (testedNumber (r .tested)) ⌝ }
 {
-    deduce(Rule::Enumerate, rows, columns, position, safe, mines)
+    deduce(Rule::Enumerate, edgeless, rows, columns, position, safe, mines)
 }

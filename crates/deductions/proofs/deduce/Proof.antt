@@ -2,6 +2,7 @@
 -- other clauses are laws of the call, from this equation. Rests on Deductions, SoundCalls, EnumerationCalls, Contradictions and the contracts of the calls.
 -- Assumes nothing.
 use mathlib.Core.Path.{_≡_, sym, _∙_}
+use mathlib.Core.Bool.{Bool}
 use mathlib.Core.List.{List}
 use Prim.Native.Nat.{ℕ}
 use borrow.Author.Needs.{needs}
@@ -26,19 +27,19 @@ use Rattle.deductions.proofs.Contradictions.{call-refuses-by-rule}
 use Rattle.deductions.proofs.deduce.Statement.{statement}
 use Rattle.deductions.proofs.deduce.Tie as tie
 
-module _ (rows columns : ℕ) (p s m : List ℕ) (r : DeductionAnswer) (p′ s′ m′ : List ℕ) where
-  completes : (rule : Rule) → seen r p′ s′ m′ ≡ deduction (ruleOn rule) rows columns p s m
-      → Completes rule rows columns p s m (testedNumber (r .tested)) (r .safe) (r .mines) s′ m′
+module _ (edgeless : Bool) (rows columns : ℕ) (p s m : List ℕ) (r : DeductionAnswer) (p′ s′ m′ : List ℕ) where
+  completes : (rule : Rule) → seen r p′ s′ m′ ≡ deduction (ruleOn rule) edgeless rows columns p s m
+      → Completes rule edgeless rows columns p s m (testedNumber (r .tested)) (r .safe) (r .mines) s′ m′
   completes Direct is = tt
   completes Minus is = tt
-  completes Enumerate is = enumerate-call-complete rows columns p s m r p′ s′ m′ is
+  completes Enumerate is = enumerate-call-complete edgeless rows columns p s m r p′ s′ m′ is
 
   -- the clauses, by the first
-  clauses : (rule : Rule) → seen r p′ s′ m′ ≡ deduction (ruleOn rule) rows columns p s m
-      → (seen r p′ s′ m′ ≡ deduction (ruleOn rule) rows columns p s m)
-      × (SoundCall rows columns p s m (testedNumber (r .tested)) (r .safe) (r .mines) p′ s′ m′
-      × (Completes rule rows columns p s m (testedNumber (r .tested)) (r .safe) (r .mines) s′ m′ × Refuses rule rows columns p s m (testedNumber (r .tested))))
-  clauses rule is = (is, (call-sound rule rows columns p s m r p′ s′ m′ is, (completes rule is, call-refuses-by-rule rows columns p s m r p′ s′ m′ rule is)))
+  clauses : (rule : Rule) → seen r p′ s′ m′ ≡ deduction (ruleOn rule) edgeless rows columns p s m
+      → (seen r p′ s′ m′ ≡ deduction (ruleOn rule) edgeless rows columns p s m)
+      × (SoundCall edgeless rows columns p s m (testedNumber (r .tested)) (r .safe) (r .mines) p′ s′ m′
+      × (Completes rule edgeless rows columns p s m (testedNumber (r .tested)) (r .safe) (r .mines) s′ m′ × Refuses rule edgeless rows columns p s m (testedNumber (r .tested))))
+  clauses rule is = (is, (call-sound rule edgeless rows columns p s m r p′ s′ m′ is, (completes rule is, call-refuses-by-rule edgeless rows columns p s m r p′ s′ m′ rule is)))
 
 test-deduction-requires : tie.Need-test-deduction-requires
 test-deduction-requires c κs = search needs
@@ -63,7 +64,7 @@ run-rule-requires : tie.Need-run-rule-requires
 run-rule-requires c κs =
     let accepted = facts (c .before .before) .position in
     let read = c .read-blocks .ensures in
-    (read-whole _ _ _ accepted _ read, (read-ready _ _ _ accepted _ read, read-combinable _ _ _ accepted _ read))
+    (read-whole _ _ _ _ accepted _ read, (read-ready _ _ _ _ accepted _ read, read-combinable _ _ _ _ accepted _ read))
 
 give-answer-requires : tie.Need-give-answer-requires
 give-answer-requires c κs =
@@ -71,7 +72,7 @@ give-answer-requires c κs =
     let read = ran .before in
     let accepts = read .before .before in
     let a = accepts .before .before .before .before .before .before .before .args in
-    rule-held (a .rule) (a .rows) (a .columns) (a .position .now) (a .safe .now) (a .mines .now) (tests accepts) (read .read-blocks .result) (read .read-blocks .ensures)
+    rule-held (a .rule) (a .edgeless) (a .rows) (a .columns) (a .position .now) (a .safe .now) (a .mines .now) (tests accepts) (read .read-blocks .result) (read .read-blocks .ensures)
     (ran .run-rule .result) (ran .run-rule .ensures .0) (ran .run-rule .ensures .1)
 
 enum-known-refusal : tie.Need-enum-known-refusal
@@ -96,9 +97,9 @@ returns c =
     let read = ran .before in
     let accepts = read .before .before in
     let a = accepts .before .before .before .before .before .before .before .args in
-    clauses (a .rows) (a .columns) (a .position .now) (a .safe .now) (a .mines .now) _ _ _ _ (a .rule)
+    clauses (a .edgeless) (a .rows) (a .columns) (a .position .now) (a .safe .now) (a .mines .now) _ _ _ _ (a .rule)
     (gave .give-answer .ensures
-    ∙ rule-seen (a .rule) (a .rows) (a .columns) (a .position .now) (a .safe .now) (a .mines .now) (tests accepts) (read .read-blocks .result) (read .read-blocks .ensures)
+    ∙ rule-seen (a .rule) (a .edgeless) (a .rows) (a .columns) (a .position .now) (a .safe .now) (a .mines .now) (tests accepts) (read .read-blocks .result) (read .read-blocks .ensures)
     (ran .run-rule .result) (ran .run-rule .ensures .0) (ran .run-rule .ensures .1))
 
 same-length-4 : tie.Need-same-length-4
@@ -109,8 +110,8 @@ returns-2 c =
     let told = c .before .before .refusal .given in
     let tested = c .before .before .before .before in
     let a = tested .before .before .before .before .before .args in
-    clauses (a .rows) (a .columns) (a .position .now) (a .safe .now) (a .mines .now) _ _ _ _ (a .rule)
-    (tests-refuse (a .rule) (a .rows) (a .columns) (a .position .now) (a .safe .now) (a .mines .now) (told .0 .0) (sym (tested .test-deduction .ensures) ∙ told .1)
+    clauses (a .edgeless) (a .rows) (a .columns) (a .position .now) (a .safe .now) (a .mines .now) _ _ _ _ (a .rule)
+    (tests-refuse (a .rule) (a .edgeless) (a .rows) (a .columns) (a .position .now) (a .safe .now) (a .mines .now) (told .0 .0) (sym (tested .test-deduction .ensures) ∙ told .1)
     (c .refused .result) (c .refused .ensures))
 
 pub deduce-spec : {M : Type 1} → statement M
