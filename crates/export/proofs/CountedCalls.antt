@@ -5,6 +5,7 @@ use mathlib.Core.Path.{_≡_, refl, sym, ap, _∙_}
 use mathlib.Core.List.{List, [], _∷_}
 use Prim.Native.Nat.{ℕ, _<_}
 use lib.ListN.{length, getD}
+use Rattle.grid.specs.Window.{flat}
 use Rattle.refusals.specs.declared.Refusal.{Refusal}
 use Rattle.refusals.specs.declared.Tested.{Tested}
 use Rattle.refusals.specs.declared.Tested.the-variants.{Accepted, Refused}
@@ -33,8 +34,8 @@ laid-counts number a b counts is room _ =
 -- ---- of a number and counts, instead of the answer's
 
 module _ {n number a b : ℕ} (after : List ℕ) (is : n ≡ number) (counted : CountsOf number a b after) where
-  sound-counted : {rows columns : ℕ} {p s m p′ s′ m′ : List ℕ} → SoundCall rows columns p s m number a b p′ s′ m′
-      → SoundCall rows columns p s m n (getD after 0 0) (getD after 1 0) p′ s′ m′
+  sound-counted : {rows columns : ℕ} {p s m p′ s′ m′ : List ℕ} → SoundCall flat rows columns p s m number a b p′ s′ m′
+      → SoundCall flat rows columns p s m n (getD after 0 0) (getD after 1 0) p′ s′ m′
   sound-counted c = record {
     lists-true = λ z. let (e, f) = counted (sym is ∙ z) in rw (e, f) (c .lists-true (sym is ∙ z));
     only-marked = λ z. let (e, f) = counted (sym is ∙ z) in rw (e, f) (c .only-marked (sym is ∙ z));
@@ -50,8 +51,8 @@ module _ {n number a b : ℕ} (after : List ℕ) (is : n ≡ number) (counted : 
       let (e, f) = counted (c .is-accepted) in
       record { is-accepted = is ∙ c .is-accepted; safe-found = rw e (c .safe-found); mines-found = rw f (c .mines-found) }
 
-  table-counted : {rows columns : ℕ} {p : List ℕ} {k : ℕ} {t t′ : List ℕ} → TableCall rows columns p k t number a b t′
-      → TableCall rows columns p k t n (getD after 0 0) (getD after 1 0) t′
+  table-counted : {rows columns : ℕ} {p : List ℕ} {k : ℕ} {t t′ : List ℕ} → TableCall flat rows columns p k t number a b t′
+      → TableCall flat rows columns p k t n (getD after 0 0) (getD after 1 0) t′
   table-counted c = record {
     accepted = ((λ z. c .accepted .0 (sym is ∙ z)), λ h. is ∙ c .accepted .1 h);
     lists = λ z. let (e, f) = counted (sym is ∙ z) in rw (e, f) (c .lists (sym is ∙ z));
@@ -76,13 +77,13 @@ module _ (t : Tested) (a b : ℕ) (counts : List ℕ) {after : List ℕ} {n : �
         go (Refused x) e = refusal-numbered x
 
     -- it is sound
-    pub returned-sound : {rows columns : ℕ} {p s m p′ s′ m′ : List ℕ} → SoundCall rows columns p s m (testedNumber t) a b p′ s′ m′
-        → SoundCall rows columns p s m n (getD after 0 0) (getD after 1 0) p′ s′ m′
+    pub returned-sound : {rows columns : ℕ} {p s m p′ s′ m′ : List ℕ} → SoundCall flat rows columns p s m (testedNumber t) a b p′ s′ m′
+        → SoundCall flat rows columns p s m n (getD after 0 0) (getD after 1 0) p′ s′ m′
     returned-sound = sound-counted after returned-number returned-counts
 
     -- and complete
-    pub returned-complete : (rule : Rule) (rows columns : ℕ) (p s m s′ m′ : List ℕ) → Completes rule rows columns p s m (testedNumber t) a b s′ m′
-        → Completes rule rows columns p s m n (getD after 0 0) (getD after 1 0) s′ m′
+    pub returned-complete : (rule : Rule) (rows columns : ℕ) (p s m s′ m′ : List ℕ) → Completes rule flat rows columns p s m (testedNumber t) a b s′ m′
+        → Completes rule flat rows columns p s m n (getD after 0 0) (getD after 1 0) s′ m′
     returned-complete Direct rows columns p s m s′ m′ c = tt
     returned-complete Minus rows columns p s m s′ m′ c = tt
     returned-complete Enumerate rows columns p s m s′ m′ c = λ tests layout fit. complete-counted after returned-number returned-counts (c tests layout fit)
@@ -90,11 +91,11 @@ module _ (t : Tested) (a b : ℕ) (counts : List ℕ) {after : List ℕ} {n : �
 -- ---- what the table's call returns, by the form of its answer
 
 module _ {rows columns : ℕ} {p : List ℕ} {k : ℕ} {t t′ : List ℕ} {answer : TableAnswer}
-    (c : TableCall rows columns p k t (tableNumber answer) (tableSolutions answer) (tableGroups answer) t′) where
+    (c : TableCall flat rows columns p k t (tableNumber answer) (tableSolutions answer) (tableGroups answer) t′) where
   pub refused-table : {x : Refusal} {n : ℕ} (after : List ℕ) → answer ≡ table.Refused x → n ≡ refusalNumber x
-      → TableCall rows columns p k t n (getD after 0 0) (getD after 1 0) t′
+      → TableCall flat rows columns p k t n (getD after 0 0) (getD after 1 0) t′
   refused-table {x} after which is = table-counted after is (refusal-numbered x) (rw which at c)
 
   pub listed-table : {a b : ℕ} (counts : List ℕ) {after : List ℕ} → answer ≡ table.Listed a b → after ≡ laid (a ∷ b ∷ []) counts → 1 < length counts
-      → TableCall rows columns p k t 0 (getD after 0 0) (getD after 1 0) t′
+      → TableCall flat rows columns p k t 0 (getD after 0 0) (getD after 1 0) t′
   listed-table {a} {b} counts {after} which is room = table-counted after refl (laid-counts 0 a b counts is room) (rw which at c)

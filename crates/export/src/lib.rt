@@ -2,6 +2,7 @@
 // has room for. A refusal writes nothing. Numbers and slices only (a slice is a pointer and its length), and nothing is asked of the caller.
 // The first clause of a call gives the number and every lent byte, whatever room there is for counts. What demands 2 and 3 ask is said in the other clauses, of
 // the number, the slices and the first two counts, where there is room for both; when a rule refuses with 6 is said of the number alone.
+use grid::window::FLAT;
 use deductions::Rule;
 use deductions::deduce;
 use frontier::refresh_matrixs;
@@ -22,7 +23,7 @@ ghost use lib.Dec.{eqb};
 ghost use lib.ListN.{length, getD, set};
 ghost use Rattle.lists.specs.Lists.{bit as bitOf};
 ghost use Rattle.grid.specs.Cells.{cellOf};
-ghost use Rattle.grid.specs.Window.{neighbours};
+ghost use Rattle.grid.specs.Window.{flat, neighbours};
 ghost use Rattle.refusals.specs.declared.Tested.the-variants.{Accepted};
 ghost use Rattle.refusals.specs.Tests.{boardTested, deductionTested, startCell};
 ghost use Rattle.fitting.specs.Layouts.{Fits};
@@ -79,14 +80,14 @@ fn deduce_counted(
     counts: &mut [u64],
 ) -> u8
     ensures { λ r. ⌜ returned r (now (position .exit) ∷ now (safe .exit) ∷ now (mines .exit) ∷ []) (now (counts .exit))
-        ≡ deductionReturned (deduction (ruleOn rule) rows columns (now (position .entry)) (now (safe .entry)) (now (mines .entry))) (now (counts .entry)) ⌝ }
-    ensures sound { λ r. ⌜ (1 < length (now (counts .entry)) → SoundCall rows columns (now (position .entry)) (now (safe .entry)) (now (mines .entry))
+        ≡ deductionReturned (deduction (ruleOn rule) flat rows columns (now (position .entry)) (now (safe .entry)) (now (mines .entry))) (now (counts .entry)) ⌝ }
+    ensures sound { λ r. ⌜ (1 < length (now (counts .entry)) → SoundCall flat rows columns (now (position .entry)) (now (safe .entry)) (now (mines .entry))
         r (getD (now (counts .exit)) 0 0) (getD (now (counts .exit)) 1 0) (now (position .exit)) (now (safe .exit)) (now (mines .exit))) ⌝ }
-    ensures complete { λ r. ⌜ (1 < length (now (counts .entry)) → Completes rule rows columns (now (position .entry)) (now (safe .entry)) (now (mines .entry))
+    ensures complete { λ r. ⌜ (1 < length (now (counts .entry)) → Completes rule flat rows columns (now (position .entry)) (now (safe .entry)) (now (mines .entry))
         r (getD (now (counts .exit)) 0 0) (getD (now (counts .exit)) 1 0) (now (safe .exit)) (now (mines .exit))) ⌝ }
-    ensures six { λ r. ⌜ Refuses rule rows columns (now (position .entry)) (now (safe .entry)) (now (mines .entry)) r ⌝ }
+    ensures six { λ r. ⌜ Refuses rule flat rows columns (now (position .entry)) (now (safe .entry)) (now (mines .entry)) r ⌝ }
 {
-    let answer = deduce(rule, rows, columns, position, safe, mines);
+    let answer = deduce(rule, FLAT, rows, columns, position, safe, mines);
     let tested = answer.tested;
     put_deduction(tested, answer.safe, answer.mines, counts)
 }
@@ -99,9 +100,9 @@ pub extern "C" fn lihvompa_frontier(
     position: &[u8],
     counts: &mut [u64],
 ) -> u8
-    ensures { λ r. ⌜ returned r [] (now (counts .exit)) ≡ frontierReturned (refreshMatrixs rows columns (now (position .entry))) (now (counts .entry)) ⌝ }
+    ensures { λ r. ⌜ returned r [] (now (counts .exit)) ≡ frontierReturned (refreshMatrixs flat rows columns (now (position .entry))) (now (counts .entry)) ⌝ }
 {
-    let answer = refresh_matrixs(rows, columns, position);
+    let answer = refresh_matrixs(FLAT, rows, columns, position);
     let tested = answer.tested;
     match tested {
         Tested::Refused(refusal) => refusal_number(refusal),
@@ -127,10 +128,10 @@ pub extern "C" fn lihvompa_direct(
     counts: &mut [u64],
 ) -> u8
     ensures { λ r. ⌜ returned r (now (position .exit) ∷ now (safe .exit) ∷ now (mines .exit) ∷ []) (now (counts .exit))
-        ≡ deductionReturned (solveDirect rows columns (now (position .entry)) (now (safe .entry)) (now (mines .entry))) (now (counts .entry)) ⌝ }
-    ensures sound { λ r. ⌜ (1 < length (now (counts .entry)) → SoundCall rows columns (now (position .entry)) (now (safe .entry)) (now (mines .entry))
+        ≡ deductionReturned (solveDirect flat rows columns (now (position .entry)) (now (safe .entry)) (now (mines .entry))) (now (counts .entry)) ⌝ }
+    ensures sound { λ r. ⌜ (1 < length (now (counts .entry)) → SoundCall flat rows columns (now (position .entry)) (now (safe .entry)) (now (mines .entry))
         r (getD (now (counts .exit)) 0 0) (getD (now (counts .exit)) 1 0) (now (position .exit)) (now (safe .exit)) (now (mines .exit))) ⌝ }
-    ensures six { λ r. ⌜ DirectRefuses rows columns (now (position .entry)) (now (safe .entry)) (now (mines .entry)) r ⌝ }
+    ensures six { λ r. ⌜ DirectRefuses flat rows columns (now (position .entry)) (now (safe .entry)) (now (mines .entry)) r ⌝ }
 {
     deduce_counted(Rule::Direct, rows, columns, position, safe, mines, counts)
 }
@@ -146,10 +147,10 @@ pub extern "C" fn lihvompa_minus(
     counts: &mut [u64],
 ) -> u8
     ensures { λ r. ⌜ returned r (now (position .exit) ∷ now (safe .exit) ∷ now (mines .exit) ∷ []) (now (counts .exit))
-        ≡ deductionReturned (solveMinus rows columns (now (position .entry)) (now (safe .entry)) (now (mines .entry))) (now (counts .entry)) ⌝ }
-    ensures sound { λ r. ⌜ (1 < length (now (counts .entry)) → SoundCall rows columns (now (position .entry)) (now (safe .entry)) (now (mines .entry))
+        ≡ deductionReturned (solveMinus flat rows columns (now (position .entry)) (now (safe .entry)) (now (mines .entry))) (now (counts .entry)) ⌝ }
+    ensures sound { λ r. ⌜ (1 < length (now (counts .entry)) → SoundCall flat rows columns (now (position .entry)) (now (safe .entry)) (now (mines .entry))
         r (getD (now (counts .exit)) 0 0) (getD (now (counts .exit)) 1 0) (now (position .exit)) (now (safe .exit)) (now (mines .exit))) ⌝ }
-    ensures six { λ r. ⌜ MinusRefuses rows columns (now (position .entry)) (now (safe .entry)) (now (mines .entry)) r ⌝ }
+    ensures six { λ r. ⌜ MinusRefuses flat rows columns (now (position .entry)) (now (safe .entry)) (now (mines .entry)) r ⌝ }
 {
     deduce_counted(Rule::Minus, rows, columns, position, safe, mines, counts)
 }
@@ -165,15 +166,15 @@ pub extern "C" fn lihvompa_enumerate(
     counts: &mut [u64],
 ) -> u8
     ensures { λ r. ⌜ returned r (now (position .exit) ∷ now (safe .exit) ∷ now (mines .exit) ∷ []) (now (counts .exit))
-        ≡ deductionReturned (solveEnumerate rows columns (now (position .entry)) (now (safe .entry)) (now (mines .entry))) (now (counts .entry)) ⌝ }
-    ensures sound { λ r. ⌜ (1 < length (now (counts .entry)) → SoundCall rows columns (now (position .entry)) (now (safe .entry)) (now (mines .entry))
+        ≡ deductionReturned (solveEnumerate flat rows columns (now (position .entry)) (now (safe .entry)) (now (mines .entry))) (now (counts .entry)) ⌝ }
+    ensures sound { λ r. ⌜ (1 < length (now (counts .entry)) → SoundCall flat rows columns (now (position .entry)) (now (safe .entry)) (now (mines .entry))
         r (getD (now (counts .exit)) 0 0) (getD (now (counts .exit)) 1 0) (now (position .exit)) (now (safe .exit)) (now (mines .exit))) ⌝ }
     ensures complete { λ r. ⌜ (1 < length (now (counts .entry))
         → deductionTested rows columns (now (position .entry)) (length (now (safe .entry))) (length (now (mines .entry))) ≡ Accepted
-        → (layout : List Bool) → Fits (neighbours rows columns) (now (position .entry)) layout
-        → CompleteCall (neighbours rows columns) (now (position .entry))
+        → (layout : List Bool) → Fits (neighbours flat rows columns) (now (position .entry)) layout
+        → CompleteCall (neighbours flat rows columns) (now (position .entry))
         r (getD (now (counts .exit)) 0 0) (getD (now (counts .exit)) 1 0) (now (safe .exit)) (now (mines .exit))) ⌝ }
-    ensures six { λ r. ⌜ EnumerateRefuses rows columns (now (position .entry)) (now (safe .entry)) (now (mines .entry)) r ⌝ }
+    ensures six { λ r. ⌜ EnumerateRefuses flat rows columns (now (position .entry)) (now (safe .entry)) (now (mines .entry)) r ⌝ }
 {
     deduce_counted(
         Rule::Enumerate,
@@ -198,11 +199,11 @@ pub extern "C" fn lihvompa_table(
     counts: &mut [u64],
 ) -> u8
     ensures { λ r. ⌜ returned r (now (table .exit) ∷ []) (now (counts .exit))
-        ≡ tableReturned (calAllSolution rows columns (now (position .entry)) block (now (table .entry))) (now (counts .entry)) ⌝ }
-    ensures listed { λ r. ⌜ (1 < length (now (counts .entry)) → TableCall rows columns (now (position .entry)) block (now (table .entry))
+        ≡ tableReturned (calAllSolution flat rows columns (now (position .entry)) block (now (table .entry))) (now (counts .entry)) ⌝ }
+    ensures listed { λ r. ⌜ (1 < length (now (counts .entry)) → TableCall flat rows columns (now (position .entry)) block (now (table .entry))
         r (getD (now (counts .exit)) 0 0) (getD (now (counts .exit)) 1 0) (now (table .exit))) ⌝ }
 {
-    let answer = cal_all_solution(rows, columns, position, block, table);
+    let answer = cal_all_solution(FLAT, rows, columns, position, block, table);
     match answer {
         TableAnswer::Refused(refusal) => refusal_number(refusal),
         TableAnswer::Listed(solutions, groups) => {
@@ -249,14 +250,14 @@ pub extern "C" fn lihvompa_verdict(
     counts: &mut [u64],
 ) -> u8
     ensures { λ r. ⌜ returned r (now (picture .exit) ∷ []) (now (counts .exit))
-        ≡ verdictReturned (isSolvable rows columns «start_row» «start_column» (now (cells .entry)) (now (picture .entry))) (now (counts .entry)) ⌝ }
-    ensures { λ r. ⌜ (boardTested rows columns «start_row» «start_column» (now (cells .entry)) (length (now (picture .entry))) ≡ Accepted
+        ≡ verdictReturned (isSolvable flat rows columns «start_row» «start_column» (now (cells .entry)) (now (picture .entry))) (now (counts .entry)) ⌝ }
+    ensures { λ r. ⌜ (boardTested flat rows columns «start_row» «start_column» (now (cells .entry)) (length (now (picture .entry))) ≡ Accepted
         → cellOf (now (cells .entry)) (startCell columns «start_row» «start_column» (now (cells .entry))) ≢ 255
         → 1 < length (now (counts .entry))
-        → Demand3 (neighbours rows columns) (now (cells .entry)) (startCell columns «start_row» «start_column» (now (cells .entry)))
+        → Demand3 (neighbours flat rows columns) (now (cells .entry)) (startCell columns «start_row» «start_column» (now (cells .entry)))
         (eqb (getD (now (counts .exit)) 0 0) 1) (getD (now (counts .exit)) 1 0) (now (picture .exit))) ⌝ }
 {
-    let verdict = is_solvable(rows, columns, start_row, start_column, cells, picture);
+    let verdict = is_solvable(FLAT, rows, columns, start_row, start_column, cells, picture);
     match verdict {
         Verdict::Refused(refusal) => refusal_number(refusal),
         Verdict::Judged(yes, opened, grade, rounds) => {

@@ -5,7 +5,7 @@ use mathlib.Core.Bool.{true}
 use mathlib.Core.List.{List, [], _∷_}
 use Prim.Native.Nat.{ℕ}
 use native.Mathlib.Omega.{arith}
-use Rattle.grid.specs.Window.{neighbours}
+use Rattle.grid.specs.Window.{flat, neighbours}
 use Rattle.refusals.specs.declared.Tested.{Tested}
 use Rattle.refusals.specs.declared.Tested.the-variants.{Accepted, Refused}
 use Rattle.refusals.specs.Tests.{positionTested}
@@ -27,12 +27,12 @@ use Rattle.frontier_lines.specs.Frontier.{frontierText, answerTo, fronti
 
 -- ---- the block set
 
-pub answer-whole : (rows columns : ℕ) (p : List ℕ) → Whole (refreshMatrixs rows columns p .blocks)
+pub answer-whole : (rows columns : ℕ) (p : List ℕ) → Whole (refreshMatrixs flat rows columns p .blocks)
 unfolding refreshMatrixs
 answer-whole rows columns p = go (positionTested rows columns p) refl
   where
-    go : (t : Tested) → positionTested rows columns p ≡ t → Whole (answerAfter t rows columns p .blocks)
-    go Accepted e = set-whole (frontier (neighbours rows columns) p) _ refl (frontier-fits rows columns p (accepted-position rows columns p e))
+    go : (t : Tested) → positionTested rows columns p ≡ t → Whole (answerAfter t flat rows columns p .blocks)
+    go Accepted e = set-whole (frontier (neighbours flat rows columns) p) _ refl (frontier-fits flat rows columns p (accepted-position rows columns p e))
     go (Refused r) e = set-whole [] _ refl none-fits
 
 -- ---- the writes

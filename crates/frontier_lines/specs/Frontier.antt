@@ -3,6 +3,7 @@ use mathlib.Core.Bool.{cond}
 use mathlib.Core.List.{List, [], _∷_, _++_}
 use Prim.Native.Nat.{ℕ}
 use lib.ListN.{take}
+use Rattle.grid.specs.Window.{flat}
 use Rattle.refusals.specs.declared.Tested.{Tested}
 use Rattle.refusals.specs.declared.Tested.the-variants.{Accepted, Refused}
 use Rattle.refusals.specs.Refusals.{refusalNumber}
@@ -24,7 +25,7 @@ frontierText Accepted a =
 
 -- the call's answer to the line's position
 abbrev pub answerTo : Line → FrontierAnswer
-answerTo l = refreshMatrixs (l .rows) (l .columns) (take (l .len) (l .cells))
+answerTo l = refreshMatrixs flat (l .rows) (l .columns) (take (l .len) (l .cells))
 
 unfoldable pub frontierLine : List ℕ → List ℕ
 frontierLine line = cond (lineOf line .readable) (frontierText (answerTo (lineOf line) .tested) (answerTo (lineOf line))) unreadableText

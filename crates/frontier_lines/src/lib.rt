@@ -1,4 +1,5 @@
 // The answer of refresh_matrixs to a line of numbers: `inside 1 mines 0 blocks 1 [1 | 1=1]`, or a refusal.
+use grid::window::FLAT;
 use frontier::refresh_matrixs;
 use lines::read_line;
 use refusals::Tested;
@@ -19,7 +20,7 @@ pub fn frontier_line(line: &[u8], out: &mut [u8]) -> usize
     }
     let cells = read.cells;
     let len = read.len;
-    let answer = refresh_matrixs(read.rows, read.columns, &cells[..len]);
+    let answer = refresh_matrixs(FLAT, read.rows, read.columns, &cells[..len]);
     let tested = answer.tested;
     match tested {
         Tested::Refused(refusal) => put_refused(out, refusal),

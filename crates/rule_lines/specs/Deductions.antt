@@ -4,6 +4,7 @@ use mathlib.Core.Bool.{Bool, true, false, cond}
 use mathlib.Core.List.{List, [], _∷_, _++_}
 use Prim.Native.Nat.{ℕ}
 use lib.ListN.{take, replicate}
+use Rattle.grid.specs.Window.{flat}
 use Rattle.refusals.specs.declared.Tested.{Tested}
 use Rattle.refusals.specs.declared.Tested.the-variants.{Accepted, Refused}
 use Rattle.refusals.specs.Refusals.{refusalNumber}
@@ -55,7 +56,7 @@ deductionText rule w = textAfter rule (w .answer .tested) w
 
 -- what the caller of a rule sees of a line's position
 abbrev pub calledOn : Rule → Line → Seen
-calledOn rule l = deduction (ruleOn rule) (l .rows) (l .columns) (take (l .len) (l .cells)) (replicate 1024 0) (replicate 1024 0)
+calledOn rule l = deduction (ruleOn rule) flat (l .rows) (l .columns) (take (l .len) (l .cells)) (replicate 1024 0) (replicate 1024 0)
 
 -- a rule's answer to a line
 unfoldable pub deductionLine : Rule → List ℕ → List ℕ

@@ -1,5 +1,6 @@
 // The answers of the calls that deduce to a line of numbers: `refused 6`, or the two lists, the position with its marks, and the blocks left where the rule
 // hands them out.
+use grid::window::FLAT;
 use blocks::BlockSet;
 use deductions::Rule;
 use deductions::answer::DeductionAnswer;
@@ -101,6 +102,7 @@ pub fn deduction_line(rule: Rule, line: &[u8], out: &mut [u8]) -> usize
     let mut mines = [0u16; 1024];
     let answer = deduce(
         rule,
+        FLAT,
         read.rows,
         read.columns,
         &mut cells[..len],

@@ -12,7 +12,7 @@ use lib.ListN.{length, getD, replicate}
 use lib.Seq.{sets, length-sets}
 use borrow.Author.Tests.{leb-true}
 use Rattle.lists.specs.Lists.{range, joined}
-use Rattle.grid.specs.Window.{neighbours}
+use Rattle.grid.specs.Window.{flat, neighbours}
 use Rattle.refusals.specs.declared.Refusal.the-variants as refusal
 use Rattle.refusals.specs.declared.Tested.{Tested}
 use Rattle.refusals.specs.declared.Tested.the-variants as test
@@ -108,24 +108,24 @@ asked-within bs n t = go (ltb n (length bs))
     go false = omega arith
 
 module _ (rows columns : ℕ) (p : List ℕ) (n : ℕ) (t : List ℕ) where
-  call-within : RowsWithin (calAllSolution rows columns p n t .answer) (calAllSolution rows columns p n t .table)
+  call-within : RowsWithin (calAllSolution flat rows columns p n t .answer) (calAllSolution flat rows columns p n t .table)
   unfolding calAllSolution
   call-within = go (positionTested rows columns p)
     where
       asked : TableSeen
-      asked = blockAsked (frontier (neighbours rows columns) p) n t
+      asked = blockAsked (frontier (neighbours flat rows columns) p) n t
 
       go : (x : Tested) → RowsWithin (afterTests x asked t .answer) (afterTests x asked t .table)
-      go test.Accepted = asked-within (frontier (neighbours rows columns) p) n t
+      go test.Accepted = asked-within (frontier (neighbours flat rows columns) p) n t
       go (test.Refused r) = omega arith
 
-  pub seen-within : {a : TableAnswer} {after : List ℕ} → tableSeen a after ≡ calAllSolution rows columns p n t → RowsWithin a after
+  pub seen-within : {a : TableAnswer} {after : List ℕ} → tableSeen a after ≡ calAllSolution flat rows columns p n t → RowsWithin a after
   seen-within e = subst (λ (w : TableSeen). RowsWithin (w .answer) (w .table)) (sym e) call-within
 
 -- ---- what the caller sees
 
 pub block-written : {b : List ℕ} {at : ℕ} {after : List ℕ} {r : ℕ} (rows columns : ℕ) (p : List ℕ) (k : ℕ) {a : TableAnswer} {table : List ℕ}
-    → tableSeen a table ≡ calAllSolution rows columns p k (replicate 16384 0) → Written b at (tableText a table) after r
+    → tableSeen a table ≡ calAllSolution flat rows columns p k (replicate 16384 0) → Written b at (tableText a table) after r
     → Written b at (blockTable rows columns p k) after r
 unfolding blockTable
 block-written {b} {at} {after} {r} rows columns p k e h = subst (λ (w : TableSeen). Written b at (seenText w) after r) e h

@@ -6,6 +6,7 @@ use mathlib.Core.List.{List, [], _∷_, _++_, map}
 use Prim.Native.Nat.{ℕ, _*_, _≤_}
 use lib.Dec.{eqb}
 use lib.ListN.{length, take, replicate}
+use Rattle.grid.specs.Window.{flat}
 use Rattle.lists.specs.Lists.{range, joined}
 use Rattle.refusals.specs.declared.Tested.{Tested}
 use Rattle.refusals.specs.declared.Tested.the-variants as test
@@ -69,7 +70,7 @@ seenText w = tableText (w .answer) (w .table)
 
 -- the table of the block at place k
 unfoldable pub blockTable : ℕ → ℕ → List ℕ → ℕ → List ℕ
-blockTable rows columns p k = seenText (calAllSolution rows columns p k (replicate 16384 0))
+blockTable rows columns p k = seenText (calAllSolution flat rows columns p k (replicate 16384 0))
 
 -- ---- the tables of a position
 

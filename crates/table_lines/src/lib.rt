@@ -1,6 +1,7 @@
 // The answers of cal_all_solution to a line of numbers: for each block of its position's frontier in order, how many groups and solutions it has, and a row
 // for each solution with a value for each group. Each block's table is asked for in a fresh table of 16,384 bytes, and a block whose rows do not fit is a
 // refusal in its place. The rows stand in the lent table one after another, so the text is read off its front. specs/Tables.antt says what the text is.
+use grid::window::FLAT;
 use frontier::refresh_matrixs;
 use lines::read_line;
 use refusals::Tested;
@@ -115,7 +116,7 @@ fn put_block(
     ensures { λ r. ⌜ Written (now (out .entry)) at (blockTable rows columns (now (position .entry)) k) (now (out .exit)) r ⌝ }
 {
     let mut table = [0u8; 16384];
-    let answer = cal_all_solution(rows, columns, position, k, &mut table);
+    let answer = cal_all_solution(FLAT, rows, columns, position, k, &mut table);
     put_table(out, at, answer, &table)
 }
 
@@ -141,7 +142,7 @@ pub fn table_line(line: &[u8], out: &mut [u8]) -> usize
     }
     let cells = read.cells;
     let len = read.len;
-    let answer = refresh_matrixs(read.rows, read.columns, &cells[..len]);
+    let answer = refresh_matrixs(FLAT, read.rows, read.columns, &cells[..len]);
     let tested = answer.tested;
     match tested {
         Tested::Refused(refusal) => put_refused(out, refusal),

@@ -26,7 +26,7 @@ abbrev read : tie.After-deduce → tie.After-read-line
 read c = c .before .before .before .before .before .before .before
 
 abbrev position : tie.After-deduce → List ℕ
-position c = c .deduce .last .1 .1 .1 .0
+position c = c .deduce .last .1 .1 .1 .1 .0
 
 -- it is as long as the line's cells
 same-cells : (c : tie.After-deduce) → length (position c) ≡ read c .read-line .result .len
@@ -96,7 +96,7 @@ returns-2 c =
     let call = c .before .before .before .before .before .before .before .before .before .before in
     let line = read call in
     deduction-line-written _ (line .read-line .result) (line .read-line .ensures) (not-false (line .read-line .result .readable) (call .before .before .before .before .before .if1 .left)) (line .before .before .before .args .rule)
-    (seen (call .deduce .result) (position call) (call .deduce .last .1 .1 .1 .1 .0) (call .deduce .last .1 .1 .1 .1 .1 .0)) (call .deduce .ensures .0)
+    (seen (call .deduce .result) (position call) (call .deduce .last .1 .1 .1 .1 .1 .0) (call .deduce .last .1 .1 .1 .1 .1 .1 .0)) (call .deduce .ensures .0)
     (rw (front call) at (c .before .before .put-deduction .ensures))
 
 pub deduction-line-spec : {M : Type 1} → statement M
