@@ -2,15 +2,18 @@
 -- and on the rule of the first failure. Assumes nothing.
 use mathlib.Core.Path.{_≡_}
 use mathlib.Core.Logic.{_⊎_, _≢_}
-use mathlib.Core.Bool.{true, _&&_}
-use mathlib.Core.List.{List}
+use mathlib.Core.Bool.{Bool, true, _&&_}
+use mathlib.Core.List.{List, _∷_}
 use Prim.Native.Nat.{ℕ, _*_, _≤_, _<_}
-use lib.ListN.{length}
+use lib.ListN.{length, getD}
+use Rattle.lists.specs.Lists.{all}
 use Rattle.lists.proofs.Tests.{and-left, and-right, every-at}
-use Rattle.lists.proofs.All.{all-at}
+use Rattle.lists.proofs.All.{all-head, all-tail, all-at}
 use Rattle.grid.specs.Cells.{isBoardCell, isPositionCell, cellOf, shows}
 use Rattle.grid.specs.Window.{neighbours, Board}
 use Rattle.refusals.specs.declared.Tested.the-variants.{Accepted}
+use Rattle.refusals.specs.Refusals.{tested}
+use Rattle.refusals.specs.SharedTests.{cellTests}
 use Rattle.refusals.specs.Tests.{sizeOk, lengthOk, roomOk, boardCellsOk, positionCellsOk, startOk, minesBeside, numbersOk, zeroOk, startCell, boardTested, positionTested, deductionTested, patternTested}
 use Rattle.refusals.proofs.Starts.{startCell-within}
 use Rattle.refusals.proofs.CellValues.{board-cell, position-shows}
@@ -18,11 +21,11 @@ use Rattle.refusals.proofs.Numbers.{numberOk, number-counts}
 use Rattle.refusals.proofs.FirstFailure.{accepted-on}
 pub use Rattle.refusals.proofs.Sides.{few-cells, sizeOk-sized, sizeOk-rows, sizeOk-columns, lengthOk-is, roomOk-fits}
 
-pub record AcceptedBoard (rows columns row column : ℕ) (b : List ℕ) (n : ℕ) : Type 0 where
+pub record AcceptedBoard (rows columns row column : ℕ) (b lent : List ℕ) : Type 0 where
   pub board : Board b rows columns
   pub some-rows : 1 ≤ rows
   pub some-columns : 1 ≤ columns
-  pub picture : n ≡ rows * columns
+  pub lengths : all (lengthOk rows columns) lent ≡ true
   pub cells : boardCellsOk b ≡ true
   pub start : startOk rows columns row column ≡ true
   pub numbers : numbersOk (neighbours rows columns) b ≡ true
@@ -51,29 +54,36 @@ sized-board : (least rows columns : ℕ) (b : List ℕ) → sizeOk least rows co
 sized-board least rows columns b size whole =
     record { sized = sizeOk-sized least rows columns size; whole = lengthOk-is rows columns (length b) whole }
 
-pub accepted-board : (rows columns row column : ℕ) (b : List ℕ) (n : ℕ) → boardTested rows columns row column b n ≡ Accepted → AcceptedBoard rows columns row column b n
+pub accepted-cells : (least rows columns : ℕ) (cellOk : ℕ → Bool) (b : List ℕ) → tested (cellTests least rows columns cellOk b) ≡ Accepted → Board b rows columns
+accepted-cells least rows columns cellOk b h =
+    let (size, after-size) = accepted-on (sizeOk least rows columns) _ _ h in
+    sized-board least rows columns b size (accepted-on (lengthOk rows columns (length b)) _ _ after-size .0)
+
+pub accepted-board : (rows columns row column : ℕ) (b lent : List ℕ) → boardTested rows columns row column b lent ≡ Accepted → AcceptedBoard rows columns row column b lent
 unfolding boardTested
-accepted-board rows columns row column b n h =
-    let own = lengthOk rows columns (length b) in
-    let lent = lengthOk rows columns n in
+accepted-board rows columns row column b lent h =
     let (size, after-size) = accepted-on (sizeOk 1 rows columns) _ _ h in
-    let (lengths, after-lengths) = accepted-on (own && lent) _ _ after-size in
+    let (lengths, after-lengths) = accepted-on (all (lengthOk rows columns) (length b ∷ lent)) _ _ after-size in
     let (cells, after-cells) = accepted-on (boardCellsOk b) _ _ after-lengths in
     let (start, after-start) = accepted-on (startOk rows columns row column) _ _ after-cells in
     let (numbers, after-numbers) = accepted-on (numbersOk (neighbours rows columns) b) _ _ after-start in
     let (has-zero, _) = accepted-on (zeroOk row column b) _ _ after-numbers in
-    let board = sized-board 1 rows columns b size (and-left own lent lengths) in
+    let board = sized-board 1 rows columns b size (all-head (lengthOk rows columns) (length b) lent lengths) in
     record {
       board = board;
       some-rows = sizeOk-rows 1 rows columns size;
       some-columns = sizeOk-columns 1 rows columns size;
-      picture = lengthOk-is rows columns n (and-right own lent lengths);
+      lengths = all-tail (lengthOk rows columns) (length b) lent lengths;
       cells = cells;
       start = start;
       numbers = numbers;
       has-zero = has-zero;
       start-within = startCell-within rows columns row column start b (board .whole) has-zero;
     }
+
+-- each lent length, by its place in the list
+pub lent-length : {rows columns row column : ℕ} {b lent : List ℕ} → AcceptedBoard rows columns row column b lent → (i : ℕ) → i < length lent → getD lent i 0 ≡ rows * columns
+lent-length {rows} {columns} {lent = lent} a i w = lengthOk-is rows columns (getD lent i 0) (all-at (lengthOk rows columns) lent i 0 (a .lengths) w)
 
 position-facts : (rows columns : ℕ) (p : List ℕ) → sizeOk 1 rows columns ≡ true → lengthOk rows columns (length p) ≡ true → positionCellsOk p ≡ true → AcceptedPosition rows columns p
 position-facts rows columns p size whole cells =

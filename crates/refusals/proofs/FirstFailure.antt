@@ -44,6 +44,25 @@ pub passes-accepted : (ts : List Test) → all (λ t. t .passes) ts ≡ true →
 passes-accepted [] h = refl
 passes-accepted (t ∷ ts) h = let p = and-left (t .passes) (all (λ u. u .passes) ts) h in rw p (passes-accepted ts (and-right (t .passes) (all (λ u. u .passes) ts) h))
 
+-- ---- two lists of tests, one after the other
+
+-- the refusal of the earlier ones, if they have one, else the answer of the later
+abbrev pub thenTested : Tested → Tested → Tested
+thenTested Accepted later = later
+thenTested (Refused r) later = Refused r
+
+pub tested-append : (ts us : List Test) {answer : Tested} → tested ts ≡ answer → tested (ts ++ us) ≡ thenTested answer (tested us)
+tested-append ts us e = rw (← e) (both ts)
+  where
+    both : (l : List Test) → tested (l ++ us) ≡ thenTested (tested l) (tested us)
+    both [] = refl
+    both (t ∷ l) = go (t .passes) (both l)
+      where
+        go : (p : Bool) → tested (l ++ us) ≡ thenTested (tested l) (tested us)
+            → cond p (tested (l ++ us)) (Refused (t .else)) ≡ thenTested (cond p (tested l) (Refused (t .else))) (tested us)
+        go true below = below
+        go false below = refl
+
 -- ---- refusal
 
 -- no refusal has the number 0, which is that of an answer
@@ -91,11 +110,8 @@ refused-first (t ∷ ts) r h = go (decided (t .passes)) (refused-first ts r)
         record { earlier = []; failing = t; later = ts; split = refl; pass = refl; fails = p; gives = cc }
 
 pub first-refused : {ts : List Test} {r : Refusal} → FirstFailing ts r → tested ts ≡ Refused r
-first-refused f = rw (f .split) (after (f .earlier) (f .pass) ∙ rw (f .fails, f .gives))
-  where
-    after : (l : List Test) → all (λ t. t .passes) l ≡ true → tested (l ++ (f .failing ∷ f .later)) ≡ tested (f .failing ∷ f .later)
-    after [] h = refl
-    after (t ∷ l) h = rw (and-left (t .passes) (all (λ u. u .passes) l) h) (after l (and-right (t .passes) (all (λ u. u .passes) l) h))
+first-refused f =
+    rw (f .split) (tested-append (f .earlier) (f .failing ∷ f .later) (passes-accepted (f .earlier) (f .pass)) ∙ rw (f .fails, f .gives))
 
 -- ---- the lowest number
 
