@@ -202,19 +202,16 @@ pub fn start_cell(rows: usize, columns: usize, row: usize, column: usize, cells:
 fn first_refusal(passes: bool, refusal: Refusal, later: Tested) -> Tested
     ensures { λ r. ⌜ r ≡ cond passes later (Tested.Refused refusal) ⌝ }
 {
-    if passes { later } else { Tested::Refused(refusal) }
+    if passes {
+        later
+    } else {
+        Tested::Refused(refusal)
+    }
 }
 
 // Tests 1, 2 and 3 of a call on cells that are 0 to 8, or `low` to `high`.
-fn test_cells(
-    least: usize,
-    rows: usize,
-    columns: usize,
-    low: u8,
-    high: u8,
-    cells: &[u8],
-) -> Tested
-    ensures { λ r. ⌜ r ≡ tested (cellTests least rows columns (cellIn low high) (now (cells .entry))) ⌝ }
+fn test_cells(least: usize, rows: usize, columns: usize, low: u8, high: u8, cells: &[u8]) -> Tested
+    ensures { λ r. ⌜ r ≡ tested (cellTests least rows columns (now (cells .entry)) (all (cellIn low high) (now (cells .entry)))) ⌝ }
 {
     if !size_ok(least, rows, columns) {
         return Tested::Refused(Refusal::Size);
@@ -244,9 +241,11 @@ pub fn test_board(
     match test_cells(1, rows, columns, 255, 255, cells) {
         Tested::Refused(refusal) => Tested::Refused(refusal),
         Tested::Accepted => {
-            let zero = first_refusal(zero_ok(row, column, cells), Refusal::NoZero, Tested::Accepted);
-            let numbers = first_refusal(numbers_ok(rows, columns, cells), Refusal::Number, zero);
-            first_refusal(start_ok(rows, columns, row, column), Refusal::Start, numbers)
+            let numbers = numbers_ok(rows, columns, cells);
+            let zero = zero_ok(row, column, cells);
+            let last = first_refusal(zero, Refusal::NoZero, Tested::Accepted);
+            let later = first_refusal(numbers, Refusal::Number, last);
+            first_refusal(start_ok(rows, columns, row, column), Refusal::Start, later)
         }
     }
 }
@@ -276,7 +275,7 @@ pub fn test_deduction(
             return Tested::Refused(Refusal::Length);
         }
     }
-    test_cells(1, rows, columns, 10, 12, position)
+    test_position(rows, columns, position)
 }
 
 // The tests of the pattern call, which looks at mines only.

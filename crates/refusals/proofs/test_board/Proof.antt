@@ -3,14 +3,13 @@
 use mathlib.Core.Path.{_≡_, sym, _∙_}
 use mathlib.Core.Logic.{⊎-elim}
 use mathlib.Core.Bool.{and-true, and-false}
-use mathlib.Core.List.{List, [], _∷_, _++_}
-use Prim.Native.Nat.{ℕ}
+use mathlib.Core.List.{_++_}
 use borrow.Author.Needs.{needs}
-use Rattle.grid.specs.Window.{neighbours}
-use Rattle.refusals.specs.declared.Refusal.the-variants.{Start, Number, NoZero}
+use lib.ListN.{drop}
+use Rattle.lists.specs.Lists.{all}
 use Rattle.refusals.specs.declared.Tested.{Tested}
-use Rattle.refusals.specs.Refusals.{Test, test, tested}
-use Rattle.refusals.specs.Tests.{startOk, numbersOk, zeroOk, boardTested}
+use Rattle.refusals.specs.Refusals.{tested}
+use Rattle.refusals.specs.Tests.{boardTests, boardTested}
 use Rattle.refusals.specs.SharedTests.{cellIn, cellTests}
 use Rattle.refusals.proofs.Sides.{sizeOk-sized}
 use Rattle.refusals.proofs.CellValues.{board-cells-in}
@@ -40,20 +39,16 @@ enum-known-refusal c = search needs
 enum-told : tie.Need-enum-told
 enum-told c = search needs
 
--- the tests after those of the cells
-abbrev later : ℕ → ℕ → ℕ → ℕ → List ℕ → List Test
-later rows columns row column b =
-    test (startOk rows columns row column) Start ∷ test (numbersOk (neighbours rows columns) b) Number ∷ test (zeroOk row column b) NoZero ∷ []
-
+-- the tests after the first three are what is left once these have answered
 after-cells : (c : tie.After-test-cells) {answer : Tested} → c .test-cells .result ≡ answer
     → (let a = c .before .before .before .before .before .args in
-    thenTested answer (tested (later (a .rows) (a .columns) (a .row) (a .column) (a .cells .now)))
+    thenTested answer (tested (drop 3 (boardTests (a .rows) (a .columns) (a .row) (a .column) (a .cells .now) (a .lent .now))))
     ≡ boardTested (a .rows) (a .columns) (a .row) (a .column) (a .cells .now) (a .lent .now))
 unfolding boardTested
 after-cells c told =
     let a = c .before .before .before .before .before .args in
-    let cells = cellTests 1 (a .rows) (a .columns) (cellIn 255 255) (a .cells .now) in
-    let rest = later (a .rows) (a .columns) (a .row) (a .column) (a .cells .now) in
+    let cells = cellTests 1 (a .rows) (a .columns) (a .cells .now) (all (cellIn 255 255) (a .cells .now)) in
+    let rest = drop 3 (boardTests (a .rows) (a .columns) (a .row) (a .column) (a .cells .now) (a .lent .now)) in
     let whole : tested (cells ++ rest) ≡ boardTested (a .rows) (a .columns) (a .row) (a .column) (a .cells .now) (a .lent .now) =
     ⊎-elim
     (λ w. rw (passed (w .1 .ensures) (w .2 .left), and-true, board-cells-in (a .cells .now)))
@@ -61,16 +56,17 @@ after-cells c told =
     (c .before .if1 .came) in
     sym (tested-append cells rest (sym (c .test-cells .ensures) ∙ told)) ∙ whole
 
+numbers-ok-requires : tie.Need-numbers-ok-requires
+numbers-ok-requires c κs =
+    let tests = c .before .before in
+    let a = tests .before .before .before .before .before .args in
+    accepted-cells 1 _ _ _ (all (cellIn 255 255) (a .cells .now)) (sym (tests .test-cells .ensures) ∙ c .enum-told .given .1)
+
 zero-ok-requires : tie.Need-zero-ok-requires
 zero-ok-requires c κs = search needs
 
 first-refusal-requires : tie.Need-first-refusal-requires
 first-refusal-requires c κs = search needs
-
-numbers-ok-requires : tie.Need-numbers-ok-requires
-numbers-ok-requires c κs =
-    let told = c .before .before in
-    accepted-cells 1 _ _ _ _ (sym (told .before .before .test-cells .ensures) ∙ told .enum-told .given .1)
 
 first-refusal-requires-2 : tie.Need-first-refusal-requires-2
 first-refusal-requires-2 c κs = search needs
@@ -87,16 +83,15 @@ returns-2 c = let told = c .before in after-cells (told .before .before) (told .
 returns-3 : tie.Need-returns-3
 returns-3 c =
     let start = c .before in
-    let numbers = start .before in
-    let zero = numbers .before .before in
-    let told = zero .before .before in
+    let last = start .before .before in
+    let told = last .before .before .before in
     rw (
       c .first-refusal3 .ensures,
       start .start-ok .ensures,
-      numbers .first-refusal2 .ensures,
-      numbers .before .numbers-ok .ensures,
-      zero .first-refusal .ensures,
-      zero .before .zero-ok .ensures,
+      start .before .first-refusal2 .ensures,
+      last .before .before .numbers-ok .ensures,
+      last .first-refusal .ensures,
+      last .before .zero-ok .ensures,
     )
     (after-cells (told .before .before) (told .enum-told .given .1))
 
@@ -110,9 +105,9 @@ test-board-spec =
     test-cells-requires
     enum-known-refusal
     enum-told
+    numbers-ok-requires
     zero-ok-requires
     first-refusal-requires
-    numbers-ok-requires
     first-refusal-requires-2
     start-ok-requires
     first-refusal-requires-3

@@ -1,10 +1,10 @@
 -- `test_deduction` meets its contract: where the size is right a list that is too short fails test 2, whatever the position's length; else test 2 is that of the
--- position alone. Rests on the contracts of the single tests and of `test_cells`. Assumes nothing.
+-- position alone. Rests on the contracts of the single tests and of `test_position`. Assumes nothing.
 use mathlib.Core.Path.{sym, _∙_}
 use mathlib.Core.Logic.{⊎-elim}
 use mathlib.Core.Bool.{and-true, and-false}
 use borrow.Author.Needs.{needs}
-use Rattle.refusals.specs.Tests.{positionCellsOk, deductionTested}
+use Rattle.refusals.specs.Tests.{positionTested, deductionTested}
 use Rattle.refusals.proofs.Sides.{sizeOk-sized}
 use Rattle.refusals.proofs.FirstFailure.{passed, failed}
 use Rattle.refusals.proofs.test_deduction.Statement.{statement}
@@ -37,15 +37,15 @@ returns-2 c =
       and-false,
     )
 
-test-cells-requires : tie.Need-test-cells-requires
-test-cells-requires c κs = search needs
+test-position-requires : tie.Need-test-position-requires
+test-position-requires c κs = search needs
 
 returns-3 : tie.Need-returns-3
-unfolding positionCellsOk deductionTested
+unfolding positionTested deductionTested
 returns-3 c =
     ⊎-elim
-    (λ w. rw (passed (w .1 .ensures) (w .2 .left), passed (w .3 .ensures) (w .4 .left), and-true) (c .test-cells .ensures))
-    (λ w. let size = sym (c .before .before .size-ok .ensures) ∙ w .left in rw size (rw size at (c .test-cells .ensures)))
+    (λ w. rw (c .test-position .ensures, passed (w .1 .ensures) (w .2 .left), passed (w .3 .ensures) (w .4 .left), and-true))
+    (λ w. rw (c .test-position .ensures, sym (c .before .before .size-ok .ensures) ∙ w .left))
     (c .before .if1 .came)
 
 pub test-deduction-spec : {M : Type 1} → statement M
@@ -57,5 +57,5 @@ test-deduction-spec =
     returns
     room-ok-requires-2
     returns-2
-    test-cells-requires
+    test-position-requires
     returns-3)
