@@ -198,7 +198,7 @@ pub fn start_cell(rows: usize, columns: usize, row: usize, column: usize, cells:
     row * columns + column
 }
 
-// A test by its answer, and the tests after it by theirs: the first refusal of them.
+// The refusal of a test that fails, by its answer; else what the tests after it answer.
 fn first_refusal(passes: bool, refusal: Refusal, later: Tested) -> Tested
     ensures { λ r. ⌜ r ≡ cond passes later (Tested.Refused refusal) ⌝ }
 {

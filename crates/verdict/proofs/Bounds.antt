@@ -2,7 +2,7 @@
 -- mine has 0 of both; else they are those of the passes. Rests on `rounds-cells` and `grade-bound` of the crate fitting. Assumes nothing.
 use mathlib.Core.Path.{_≡_, refl, ap}
 use mathlib.Core.Logic.{inl, inr}
-use mathlib.Core.List.{List}
+use mathlib.Core.List.{List, [], _∷_}
 use Prim.Native.Nat.{ℕ, _≤_, _<_}
 use native.Mathlib.Omega.{arith}
 use lib.Dec.{eqb}
@@ -63,7 +63,7 @@ judged-rounds rows columns b s ok l = go (decided (eqb (cellOf b s) 255))
 
 module _ (rows columns row column : ℕ) (b shown : List ℕ) where
   abbrev tests : Tested
-  tests = boardTested rows columns row column b (length shown)
+  tests = boardTested rows columns row column b (length shown ∷ [])
 
   abbrev judged : VerdictSeen
   judged = judgedFrom (neighbours rows columns) b (startCell columns row column b)
@@ -84,8 +84,8 @@ module _ (rows columns row column : ℕ) (b shown : List ℕ) where
     where
       go : (t : Tested) → tests ≡ t → verdictRounds (afterTests t judged shown .answer) ≤ length b
       go Accepted e =
-          judged-rounds rows columns b (startCell columns row column b) (tested-accepted rows columns row column b (length shown) e)
-          (accepted-board rows columns row column b (length shown) e .start-within)
+          judged-rounds rows columns b (startCell columns row column b) (tested-accepted rows columns row column b (length shown ∷ []) e)
+          (accepted-board rows columns row column b (length shown ∷ []) e .start-within)
       go (TestRefused x) e = omega arith
 
   -- so of an answer that is the definition's

@@ -3,7 +3,7 @@
 -- crate solutions. Assumes nothing.
 use mathlib.Core.Path.{_≡_, refl, ap, _∙_}
 use mathlib.Core.Logic.{_≢_}
-use mathlib.Core.List.{List}
+use mathlib.Core.List.{List, [], _∷_}
 use Prim.Native.Nat.{ℕ}
 use lib.ListN.{length}
 use borrow.Author.Tests.{ne-eqb, eqb-false}
@@ -40,16 +40,16 @@ module _ (rows columns row column : ℕ) (b shown : List ℕ) where
   passed = judge (neighbours rows columns) b (threeRules (neighbours rows columns)) start
 
   -- the tests refuse: the answer is their refusal, and the picture stays as it was
-  module _ (x : Refusal) (tests : boardTested rows columns row column b (length shown) ≡ TestRefused x) where
+  module _ (x : Refusal) (tests : boardTested rows columns row column b (length shown ∷ []) ≡ TestRefused x) where
     pub tests-refuse : verdictSeen (Refused x) shown ≡ isSolvable rows columns row column b shown
     unfolding isSolvable
     tests-refuse = rw tests
 
     -- demand 3 is asked of accepted boards only
-    pub refusal-demand-3 : {P : Type 0} → boardTested rows columns row column b (length shown) ≡ Accepted → P
-    refusal-demand-3 accepted = not-both (boardTested rows columns row column b (length shown)) x accepted tests
+    pub refusal-demand-3 : {P : Type 0} → boardTested rows columns row column b (length shown ∷ []) ≡ Accepted → P
+    refusal-demand-3 accepted = not-both (boardTested rows columns row column b (length shown ∷ [])) x accepted tests
 
-  module _ (tests : boardTested rows columns row column b (length shown) ≡ Accepted) where
+  module _ (tests : boardTested rows columns row column b (length shown ∷ []) ≡ Accepted) where
     -- the tests accept: the verdict is that from the start's cell
     pub tests-accept : isSolvable rows columns row column b shown ≡ judgedFrom (neighbours rows columns) b (startCell columns row column b)
     unfolding isSolvable
@@ -64,8 +64,8 @@ module _ (rows columns row column : ℕ) (b shown : List ℕ) where
 
       passes-demand-3 : Demand3 (neighbours rows columns) b start (passed .yes) (opened (passed .position)) (picture (passed .position))
       passes-demand-3 =
-          judge-demand-3 (neighbours rows columns) b (threeRules (neighbours rows columns)) start (tested-accepted rows columns row column b (length shown) tests)
-          (accepted-board rows columns row column b (length shown) tests .start-within) safe
+          judge-demand-3 (neighbours rows columns) b (threeRules (neighbours rows columns)) start (tested-accepted rows columns row column b (length shown ∷ []) tests)
+          (accepted-board rows columns row column b (length shown ∷ []) tests .start-within) safe
           (board-rules-sound rows columns b) (board-rules-complete rows columns b)
 
       -- demand 3 of an answer that is the definition's

@@ -52,7 +52,7 @@ pub record NoContradiction (near : ℕ → List ℕ) (p : List ℕ) : Type 0 whe
   pub by-subtraction : subtraction (frontier near p) .contradiction ≡ false
   pub by-enumeration : enumerated (frontier near p) .contradiction ≡ false
 
-module _ (rows columns row column : ℕ) (b : List ℕ) (n : ℕ) (tests : boardTested rows columns row column b n ≡ Accepted)
+module _ (rows columns row column : ℕ) (b lent : List ℕ) (tests : boardTested rows columns row column b lent ≡ Accepted)
     (safe : cellOf b (startCell columns row column b) ≢ 255) where
   pub no-rule-refuses : {p : List ℕ}
       → OnTheWay (neighbours rows columns) b (threeRules (neighbours rows columns)) (startCell columns row column b) p
@@ -61,8 +61,8 @@ module _ (rows columns row column : ℕ) (b : List ℕ) (n : ℕ) (tests : board
       let near = neighbours rows columns in
       let once = neighbours-nodup rows columns in
       let few = neighbours-few-everywhere rows columns in
-      let fit = own-on-the-way near b (threeRules near) (startCell columns row column b) (tested-accepted rows columns row column b n tests)
-      (accepted-board rows columns row column b n tests .start-within) safe (board-rules-sound rows columns b) way in
+      let fit = own-on-the-way near b (threeRules near) (startCell columns row column b) (tested-accepted rows columns row column b lent tests)
+      (accepted-board rows columns row column b lent tests .start-within) safe (board-rules-sound rows columns b) way in
       record {
         by-direct = direct-sound-at near once few p .no-contradiction (own b) fit;
         by-subtraction = subtraction-sound-at near once few p .no-contradiction (own b) fit;

@@ -87,10 +87,10 @@ returns-3 c =
     let told = last .before .before .before in
     rw (
       c .first-refusal3 .ensures,
-      start .start-ok .ensures,
       start .before .first-refusal2 .ensures,
-      last .before .before .numbers-ok .ensures,
       last .first-refusal .ensures,
+      start .start-ok .ensures,
+      last .before .before .numbers-ok .ensures,
       last .before .zero-ok .ensures,
     )
     (after-cells (told .before .before) (told .enum-told .given .1))
