@@ -93,7 +93,7 @@ sameVerdict w n values after = eqb (verdictNumber (w .answer)) n && (same (verdi
 
 -- the line holds
 unfoldable pub holds : Case → Bool
-holds (board-tested rows columns row column b n) = eqb (testedNumber (boardTested rows columns row column b (rows * columns))) n
+holds (board-tested rows columns row column b n) = eqb (testedNumber (boardTested rows columns row column b (rows * columns ∷ []))) n
 holds (position-tested rows columns p n) = eqb (testedNumber (positionTested rows columns p)) n
 holds (frontier-read rows columns p bs inside known) =
     sameBy sameBlock (frontier (neighbours rows columns) p) bs

@@ -251,7 +251,7 @@ pub extern "C" fn lihvompa_verdict(
 ) -> u8
     ensures { λ r. ⌜ returned r (now (picture .exit) ∷ []) (now (counts .exit))
         ≡ verdictReturned (isSolvable flat rows columns «start_row» «start_column» (now (cells .entry)) (now (picture .entry))) (now (counts .entry)) ⌝ }
-    ensures { λ r. ⌜ (boardTested flat rows columns «start_row» «start_column» (now (cells .entry)) (length (now (picture .entry))) ≡ Accepted
+    ensures { λ r. ⌜ (boardTested flat rows columns «start_row» «start_column» (now (cells .entry)) (length (now (picture .entry)) ∷ []) ≡ Accepted
         → cellOf (now (cells .entry)) (startCell columns «start_row» «start_column» (now (cells .entry))) ≢ 255
         → 1 < length (now (counts .entry))
         → Demand3 (neighbours flat rows columns) (now (cells .entry)) (startCell columns «start_row» «start_column» (now (cells .entry)))

@@ -46,7 +46,7 @@ module _ (near : ℕ → List ℕ) (b : List ℕ) where
       go c l (inr e) = or-right (eqb (cellOf b c) 255) (eqb (minesBeside near b c) (cellOf b c)) (eq-eqb (minesBeside near b c) (cellOf b c) (sym (own-beside c) ∙ ok .true-number c l (eqb-false (cellOf b c) 255 e)))
 
 -- a board call whose tests all pass is about an accepted board
-pub tested-accepted : (edgeless : Bool) (rows columns row column : ℕ) (b : List ℕ) (n : ℕ) → boardTested edgeless rows columns row column b n ≡ TestsPassed
+pub tested-accepted : (edgeless : Bool) (rows columns row column : ℕ) (b lent : List ℕ) → boardTested edgeless rows columns row column b lent ≡ TestsPassed
     → Accepted (neighbours edgeless rows columns) b
-tested-accepted edgeless rows columns row column b n h =
-    let a = accepted-board edgeless rows columns row column b n h in tests-accept (neighbours edgeless rows columns) b (a .cells) (a .numbers)
+tested-accepted edgeless rows columns row column b lent h =
+    let a = accepted-board edgeless rows columns row column b lent h in tests-accept (neighbours edgeless rows columns) b (a .cells) (a .numbers)

@@ -3,26 +3,30 @@
 use mathlib.Core.Path.{_≡_}
 use mathlib.Core.Logic.{_⊎_, _≢_}
 use mathlib.Core.Bool.{Bool, true, _&&_}
-use mathlib.Core.List.{List}
+use mathlib.Core.List.{List, _∷_}
 use Prim.Native.Nat.{ℕ, _*_, _≤_, _<_}
-use lib.ListN.{length}
+use native.Mathlib.Omega.{arith}
+use lib.ListN.{length, getD}
+use Rattle.lists.specs.Lists.{all}
 use Rattle.lists.proofs.Tests.{and-left, and-right, every-at}
-use Rattle.lists.proofs.All.{all-at}
+use Rattle.lists.proofs.All.{all-head, all-tail, all-at}
 use Rattle.grid.specs.Cells.{isBoardCell, isPositionCell, cellOf, shows}
 use Rattle.grid.specs.Window.{neighbours, Board}
 use Rattle.refusals.specs.declared.Tested.the-variants.{Accepted}
-use Rattle.refusals.specs.Tests.{sizeOk, lengthOk, roomOk, boardCellsOk, positionCellsOk, startOk, minesBeside, numbersOk, zeroOk, startCell, boardTested, positionTested, deductionTested, patternTested}
+use Rattle.refusals.specs.Refusals.{tested}
+use Rattle.refusals.specs.SharedTests.{cellTests}
+use Rattle.refusals.specs.Tests.{sizeOk, lengthOk, roomOk, boardCellsOk, positionCellsOk, startOk, minesBeside, numbersOk, zeroOk, startCell, boardTests, boardTested, positionTests, positionTested, deductionTests, deductionTested, patternTests, patternTested}
 use Rattle.refusals.proofs.Starts.{startCell-within}
 use Rattle.refusals.proofs.CellValues.{board-cell, position-shows}
 use Rattle.refusals.proofs.Numbers.{numberOk, number-counts}
-use Rattle.refusals.proofs.FirstFailure.{accepted-on}
+use Rattle.refusals.proofs.FirstFailure.{accepted-at}
 pub use Rattle.refusals.proofs.Sides.{few-cells, sizeOk-sized, sizeOk-rows, sizeOk-columns, lengthOk-is, roomOk-fits}
 
-pub record AcceptedBoard (edgeless : Bool) (rows columns row column : ℕ) (b : List ℕ) (n : ℕ) : Type 0 where
+pub record AcceptedBoard (edgeless : Bool) (rows columns row column : ℕ) (b lent : List ℕ) : Type 0 where
   pub board : Board b rows columns
   pub some-rows : 1 ≤ rows
   pub some-columns : 1 ≤ columns
-  pub picture : n ≡ rows * columns
+  pub lengths : all (lengthOk rows columns) lent ≡ true
   pub cells : boardCellsOk b ≡ true
   pub start : startOk rows columns row column ≡ true
   pub numbers : numbersOk (neighbours edgeless rows columns) b ≡ true
@@ -51,29 +55,33 @@ sized-board : (least rows columns : ℕ) (b : List ℕ) → sizeOk least rows co
 sized-board least rows columns b size whole =
     record { sized = sizeOk-sized least rows columns size; whole = lengthOk-is rows columns (length b) whole }
 
-pub accepted-board : (edgeless : Bool) (rows columns row column : ℕ) (b : List ℕ) (n : ℕ) → boardTested edgeless rows columns row column b n ≡ Accepted → AcceptedBoard edgeless rows columns row column b n
+pub accepted-cells : (least rows columns : ℕ) (b : List ℕ) (cellsOk : Bool) → tested (cellTests least rows columns b cellsOk) ≡ Accepted → Board b rows columns
+accepted-cells least rows columns b cellsOk h =
+    let passes = accepted-at (cellTests least rows columns b cellsOk) h in
+    sized-board least rows columns b (passes 0 (omega arith)) (passes 1 (omega arith))
+
+pub accepted-board : (edgeless : Bool) (rows columns row column : ℕ) (b lent : List ℕ) → boardTested edgeless rows columns row column b lent ≡ Accepted → AcceptedBoard edgeless rows columns row column b lent
 unfolding boardTested
-accepted-board edgeless rows columns row column b n h =
-    let own = lengthOk rows columns (length b) in
-    let lent = lengthOk rows columns n in
-    let (size, after-size) = accepted-on (sizeOk 1 rows columns) _ _ h in
-    let (lengths, after-lengths) = accepted-on (own && lent) _ _ after-size in
-    let (cells, after-cells) = accepted-on (boardCellsOk b) _ _ after-lengths in
-    let (start, after-start) = accepted-on (startOk rows columns row column) _ _ after-cells in
-    let (numbers, after-numbers) = accepted-on (numbersOk (neighbours edgeless rows columns) b) _ _ after-start in
-    let (has-zero, _) = accepted-on (zeroOk row column b) _ _ after-numbers in
-    let board = sized-board 1 rows columns b size (and-left own lent lengths) in
+accepted-board edgeless rows columns row column b lent h =
+    let passes = accepted-at (boardTests edgeless rows columns row column b lent) h in
+    let size = passes 0 (omega arith) in
+    let lengths = passes 1 (omega arith) in
+    let board = sized-board 1 rows columns b size (all-head (lengthOk rows columns) (length b) lent lengths) in
     record {
       board = board;
       some-rows = sizeOk-rows 1 rows columns size;
       some-columns = sizeOk-columns 1 rows columns size;
-      picture = lengthOk-is rows columns n (and-right own lent lengths);
-      cells = cells;
-      start = start;
-      numbers = numbers;
-      has-zero = has-zero;
-      start-within = startCell-within rows columns row column start b (board .whole) has-zero;
+      lengths = all-tail (lengthOk rows columns) (length b) lent lengths;
+      cells = passes 2 (omega arith);
+      start = passes 3 (omega arith);
+      numbers = passes 4 (omega arith);
+      has-zero = passes 5 (omega arith);
+      start-within = startCell-within rows columns row column (passes 3 (omega arith)) b (board .whole) (passes 5 (omega arith));
     }
+
+-- each lent length, by its place in the list
+pub lent-length : {edgeless : Bool} {rows columns row column : ℕ} {b lent : List ℕ} → AcceptedBoard edgeless rows columns row column b lent → (i : ℕ) → i < length lent → getD lent i 0 ≡ rows * columns
+lent-length {rows} {columns} {lent = lent} a i w = lengthOk-is rows columns (getD lent i 0) (all-at (lengthOk rows columns) lent i 0 (a .lengths) w)
 
 position-facts : (rows columns : ℕ) (p : List ℕ) → sizeOk 1 rows columns ≡ true → lengthOk rows columns (length p) ≡ true → positionCellsOk p ≡ true → AcceptedPosition rows columns p
 position-facts rows columns p size whole cells =
@@ -87,10 +95,8 @@ position-facts rows columns p size whole cells =
 pub accepted-position : (rows columns : ℕ) (p : List ℕ) → positionTested rows columns p ≡ Accepted → AcceptedPosition rows columns p
 unfolding positionTested
 accepted-position rows columns p h =
-    let (size, after-size) = accepted-on (sizeOk 1 rows columns) _ _ h in
-    let (whole, after-length) = accepted-on (lengthOk rows columns (length p)) _ _ after-size in
-    let (cells, _) = accepted-on (positionCellsOk p) _ _ after-length in
-    position-facts rows columns p size whole cells
+    let passes = accepted-at (positionTests rows columns p) h in
+    position-facts rows columns p (passes 0 (omega arith)) (passes 1 (omega arith)) (passes 2 (omega arith))
 
 pub accepted-deduction : (rows columns : ℕ) (p : List ℕ) (safe mines : ℕ) → deductionTested rows columns p safe mines ≡ Accepted → AcceptedDeduction rows columns p safe mines
 unfolding deductionTested
@@ -98,12 +104,11 @@ accepted-deduction rows columns p safe mines h =
     let own = lengthOk rows columns (length p) in
     let safe-ok = roomOk rows columns safe in
     let mines-ok = roomOk rows columns mines in
-    let (size, after-size) = accepted-on (sizeOk 1 rows columns) _ _ h in
-    let (lengths, after-lengths) = accepted-on (own && (safe-ok && mines-ok)) _ _ after-size in
-    let (cells, _) = accepted-on (positionCellsOk p) _ _ after-lengths in
+    let passes = accepted-at (deductionTests rows columns p safe mines) h in
+    let lengths = passes 1 (omega arith) in
     let rooms = and-right own (safe-ok && mines-ok) lengths in
     record {
-      position = position-facts rows columns p size (and-left own (safe-ok && mines-ok) lengths) cells;
+      position = position-facts rows columns p (passes 0 (omega arith)) (and-left own (safe-ok && mines-ok) lengths) (passes 2 (omega arith));
       safe-room = roomOk-fits rows columns safe (and-left safe-ok mines-ok rooms);
       mines-room = roomOk-fits rows columns mines (and-right safe-ok mines-ok rooms);
     }
@@ -111,14 +116,13 @@ accepted-deduction rows columns p safe mines h =
 pub accepted-pattern : (rows columns : ℕ) (b : List ℕ) → patternTested rows columns b ≡ Accepted → AcceptedPattern rows columns b
 unfolding patternTested
 accepted-pattern rows columns b h =
-    let (size, after-size) = accepted-on (sizeOk 3 rows columns) _ _ h in
-    let (whole, after-length) = accepted-on (lengthOk rows columns (length b)) _ _ after-size in
-    let (cells, _) = accepted-on (boardCellsOk b) _ _ after-length in
+    let passes = accepted-at (patternTests rows columns b) h in
+    let size = passes 0 (omega arith) in
     record {
-      board = sized-board 3 rows columns b size whole;
+      board = sized-board 3 rows columns b size (passes 1 (omega arith));
       three-rows = sizeOk-rows 3 rows columns size;
       three-columns = sizeOk-columns 3 rows columns size;
-      cells = cells;
+      cells = passes 2 (omega arith);
     }
 
 -- ---- cell by cell

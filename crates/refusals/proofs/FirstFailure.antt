@@ -5,17 +5,19 @@ use mathlib.Core.Path.{_≡_, refl, sym, _∙_, ap}
 use mathlib.Core.Logic.{inl, inr}
 use mathlib.Core.Bool.{Bool, true, false, not, cond, _&&_, _||_}
 use mathlib.Core.List.{List, [], _∷_, _++_}
-use Prim.Native.Nat.{ℕ}
+use Prim.Native.Nat.{ℕ, _<_}
 use native.Mathlib.Omega.{arith}
 use lib.Dec.{eqb, leb}
+use lib.ListN.{length, getD}
 use borrow.Author.Tests.{not-true, not-false, le-leb}
 use Rattle.lists.specs.Lists.{all}
+use Rattle.lists.proofs.All.{all-at}
 use Rattle.lists.proofs.Tests.{Decided, decided, and-left, and-right, or-right}
 use Rattle.refusals.specs.declared.Refusal.{Refusal}
 use Rattle.refusals.specs.declared.Refusal.the-variants.{Size, Length, Cell, Start, Number, Contradiction, NoZero, Block, Table, Mark, Short}
 use Rattle.refusals.specs.declared.Tested.{Tested}
 use Rattle.refusals.specs.declared.Tested.the-variants.{Accepted, Refused}
-use Rattle.refusals.specs.Refusals.{refusalNumber, Test, tested}
+use Rattle.refusals.specs.Refusals.{refusalNumber, Test, test, tested}
 
 -- ---- what the code's `if !test(..)` tells of the test that the call answers with
 
@@ -43,6 +45,29 @@ accepted-passes (t ∷ ts) h = let (p, rest) = accepted-on (t .passes) (tested t
 pub passes-accepted : (ts : List Test) → all (λ t. t .passes) ts ≡ true → tested ts ≡ Accepted
 passes-accepted [] h = refl
 passes-accepted (t ∷ ts) h = let p = and-left (t .passes) (all (λ u. u .passes) ts) h in rw p (passes-accepted ts (and-right (t .passes) (all (λ u. u .passes) ts) h))
+
+-- the test at a place of the list
+pub accepted-at : (ts : List Test) → tested ts ≡ Accepted → (i : ℕ) → i < length ts → getD ts i (test true Size) .passes ≡ true
+accepted-at ts h i w = all-at (λ t. t .passes) ts i (test true Size) (accepted-passes ts h) w
+
+-- ---- two lists of tests, one after the other
+
+-- the refusal of the earlier ones, if they have one, else the answer of the later
+abbrev pub thenTested : Tested → Tested → Tested
+thenTested Accepted later = later
+thenTested (Refused r) later = Refused r
+
+pub tested-append : (ts us : List Test) {answer : Tested} → tested ts ≡ answer → tested (ts ++ us) ≡ thenTested answer (tested us)
+tested-append ts us e = rw (← e) (both ts)
+  where
+    both : (l : List Test) → tested (l ++ us) ≡ thenTested (tested l) (tested us)
+    both [] = refl
+    both (t ∷ l) = go (t .passes) (both l)
+      where
+        go : (p : Bool) → tested (l ++ us) ≡ thenTested (tested l) (tested us)
+            → cond p (tested (l ++ us)) (Refused (t .else)) ≡ thenTested (cond p (tested l) (Refused (t .else))) (tested us)
+        go true below = below
+        go false below = refl
 
 -- ---- refusal
 
@@ -91,11 +116,8 @@ refused-first (t ∷ ts) r h = go (decided (t .passes)) (refused-first ts r)
         record { earlier = []; failing = t; later = ts; split = refl; pass = refl; fails = p; gives = cc }
 
 pub first-refused : {ts : List Test} {r : Refusal} → FirstFailing ts r → tested ts ≡ Refused r
-first-refused f = rw (f .split) (after (f .earlier) (f .pass) ∙ rw (f .fails, f .gives))
-  where
-    after : (l : List Test) → all (λ t. t .passes) l ≡ true → tested (l ++ (f .failing ∷ f .later)) ≡ tested (f .failing ∷ f .later)
-    after [] h = refl
-    after (t ∷ l) h = rw (and-left (t .passes) (all (λ u. u .passes) l) h) (after l (and-right (t .passes) (all (λ u. u .passes) l) h))
+first-refused f =
+    rw (f .split) (tested-append (f .earlier) (f .failing ∷ f .later) (passes-accepted (f .earlier) (f .pass)) ∙ rw (f .fails, f .gives))
 
 -- ---- the lowest number
 

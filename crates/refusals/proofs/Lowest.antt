@@ -10,10 +10,10 @@ use Rattle.refusals.specs.Refusals.{refusalNumber}
 use Rattle.refusals.specs.Tests.{boardTests, boardTested, positionTests, positionTested, deductionTests, deductionTested, patternTests, patternTested}
 use Rattle.refusals.proofs.FirstFailure.{failsFrom, refused-lowest}
 
-pub board-lowest : (edgeless : Bool) (rows columns row column : ℕ) (b : List ℕ) (n : ℕ) (r : Refusal) → boardTested edgeless rows columns row column b n ≡ Refused r
-    → failsFrom (refusalNumber r) (boardTests edgeless rows columns row column b n) ≡ true
+pub board-lowest : (edgeless : Bool) (rows columns row column : ℕ) (b lent : List ℕ) (r : Refusal) → boardTested edgeless rows columns row column b lent ≡ Refused r
+    → failsFrom (refusalNumber r) (boardTests edgeless rows columns row column b lent) ≡ true
 unfolding boardTested
-board-lowest edgeless rows columns row column b n r h = refused-lowest (boardTests edgeless rows columns row column b n) r refl h
+board-lowest edgeless rows columns row column b lent r h = refused-lowest (boardTests edgeless rows columns row column b lent) r refl h
 
 pub position-lowest : (rows columns : ℕ) (p : List ℕ) (r : Refusal) → positionTested rows columns p ≡ Refused r
     → failsFrom (refusalNumber r) (positionTests rows columns p) ≡ true

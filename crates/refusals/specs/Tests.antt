@@ -55,23 +55,19 @@ zeroOk row column b = not (isOpenStart row column) || any (λ v. eqb v 0) b
 unfoldable pub startCell : ℕ → ℕ → ℕ → List ℕ → ℕ
 startCell columns row column b = cond (isOpenStart row column) (firstPlace (λ v. eqb v 0) b) (row * columns + column)
 
--- 5, then 7, by their answers
-abbrev pub numberThenZero : Bool → Bool → Tested
-numberThenZero numbers zero = tested (test numbers Number ∷ test zero NoZero ∷ [])
-
--- a board call, lent a picture of n bytes
-abbrev pub boardTests : Bool → ℕ → ℕ → ℕ → ℕ → List ℕ → ℕ → List Test
-boardTests edgeless rows columns row column b n =
+-- a board call, lent slices of these lengths
+abbrev pub boardTests : Bool → ℕ → ℕ → ℕ → ℕ → List ℕ → List ℕ → List Test
+boardTests edgeless rows columns row column b lent =
     test (sizeOk 1 rows columns) Size
-    ∷ test (lengthOk rows columns (length b) && lengthOk rows columns n) Length
+    ∷ test (all (lengthOk rows columns) (length b ∷ lent)) Length
     ∷ test (boardCellsOk b) Cell
     ∷ test (startOk rows columns row column) Start
     ∷ test (numbersOk (neighbours edgeless rows columns) b) Number
     ∷ test (zeroOk row column b) NoZero
     ∷ []
 
-unfoldable pub boardTested : Bool → ℕ → ℕ → ℕ → ℕ → List ℕ → ℕ → Tested
-boardTested edgeless rows columns row column b n = tested (boardTests edgeless rows columns row column b n)
+unfoldable pub boardTested : Bool → ℕ → ℕ → ℕ → ℕ → List ℕ → List ℕ → Tested
+boardTested edgeless rows columns row column b lent = tested (boardTests edgeless rows columns row column b lent)
 
 -- a call on a position, lent nothing else that 2 measures
 abbrev pub positionTests : ℕ → ℕ → List ℕ → List Test

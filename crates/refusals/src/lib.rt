@@ -2,12 +2,13 @@
 // what a later test asks for, the earlier ones have shown. No test forms rows × columns before the size is known to be small.
 use grid::window::count_beside;
 ghost use mathlib.Core.Path.{_≡_};
-ghost use mathlib.Core.Bool.{true, _&&_};
+ghost use mathlib.Core.Bool.{true, cond, _&&_};
 ghost use lib.Dec.{leb, eqb};
-ghost use Rattle.lists.specs.Lists.{firstPlace};
+ghost use Rattle.lists.specs.Lists.{all, firstPlace};
 ghost use Rattle.grid.specs.Window.{neighbours, Sized, Board};
-ghost use Rattle.refusals.specs.Refusals.{refusalNumber};
-ghost use Rattle.refusals.specs.Tests.{sizeOk, lengthOk, roomOk, boardCellsOk, positionCellsOk, startOk, numbersOk, zeroOk, isOpenStart, startCell, numberThenZero, boardTested, positionTested, deductionTested, patternTested};
+ghost use Rattle.refusals.specs.Refusals.{refusalNumber, tested};
+ghost use Rattle.refusals.specs.Tests.{sizeOk, lengthOk, roomOk, startOk, numbersOk, zeroOk, isOpenStart, startCell, boardTested, positionTested, deductionTested, patternTested};
+ghost use Rattle.refusals.specs.SharedTests.{cellIn, cellTests};
 
 // What a call may refuse, in the order of their numbers.
 pub enum Refusal {
@@ -83,31 +84,35 @@ pub fn room_ok(rows: usize, columns: usize, length: usize) -> bool
     rows * columns <= length
 }
 
-// Test 3 of a board: each cell is 0 to 8, or 255.
-pub fn board_cells_ok(cells: &[u8]) -> bool
-    ensures { λ r. ⌜ r ≡ boardCellsOk (now (cells .entry)) ⌝ }
+// Test 2: each of the lent slices, of these lengths, has one byte for each cell.
+fn lengths_ok(rows: usize, columns: usize, lent: &[usize]) -> bool
+    requires { ⌜ Sized rows columns ⌝ }
+    ensures { λ r. ⌜ r ≡ all (lengthOk rows columns) (now (lent .entry)) ⌝ }
 {
-    for i in 0..cells.len() {
-        let v = cells[i];
-        if 8 < v {
-            if v != 255 {
-                return false;
-            }
+    for i in 0..lent.len() {
+        if !length_ok(rows, columns, lent[i]) {
+            return false;
         }
     }
     true
 }
 
-// Test 3 of a position: each cell is 0 to 8, or 10 to 12.
-pub fn position_cells_ok(position: &[u8]) -> bool
-    ensures { λ r. ⌜ r ≡ positionCellsOk (now (position .entry)) ⌝ }
+// Is a cell 0 to 8, or `low` to `high`?
+fn cell_ok(low: u8, high: u8, v: u8) -> bool
+    ensures { λ r. ⌜ r ≡ cellIn low high v ⌝ }
 {
-    for i in 0..position.len() {
-        let v = position[i];
-        if 12 < v {
-            return false;
-        }
-        if v == 9 {
+    if v <= 8 {
+        return true;
+    }
+    if low <= v { v <= high } else { false }
+}
+
+// Test 3: each cell is 0 to 8, or `low` to `high`, which is 255 to 255 on a board and 10 to 12 in a position.
+fn cells_ok(low: u8, high: u8, cells: &[u8]) -> bool
+    ensures { λ r. ⌜ r ≡ all (cellIn low high) (now (cells .entry)) ⌝ }
+{
+    for i in 0..cells.len() {
+        if !cell_ok(low, high, cells[i]) {
             return false;
         }
     }
@@ -193,20 +198,31 @@ pub fn start_cell(rows: usize, columns: usize, row: usize, column: usize, cells:
     row * columns + column
 }
 
-// Tests 5 and 7 by their answers: where both fail, 5 is told.
-fn number_then_zero(numbers: bool, zero: bool) -> Tested
-    ensures { λ r. ⌜ r ≡ numberThenZero numbers zero ⌝ }
+// The refusal of a test that fails, by its answer; else what the tests after it answer.
+fn first_refusal(passes: bool, refusal: Refusal, later: Tested) -> Tested
+    ensures { λ r. ⌜ r ≡ cond passes later (Tested.Refused refusal) ⌝ }
 {
-    if !numbers {
-        return Tested::Refused(Refusal::Number);
+    if passes {
+        later
+    } else {
+        Tested::Refused(refusal)
     }
-    if !zero {
-        return Tested::Refused(Refusal::NoZero);
-    }
-    Tested::Accepted
 }
 
-// The tests of a board call, which lends a picture of `picture` bytes.
+// Tests 1, 2 and 3 of a call on cells that are 0 to 8, or `low` to `high`.
+fn test_cells(least: usize, rows: usize, columns: usize, low: u8, high: u8, cells: &[u8]) -> Tested
+    ensures { λ r. ⌜ r ≡ tested (cellTests least rows columns (now (cells .entry)) (all (cellIn low high) (now (cells .entry)))) ⌝ }
+{
+    if !size_ok(least, rows, columns) {
+        return Tested::Refused(Refusal::Size);
+    }
+    if !length_ok(rows, columns, cells.len()) {
+        return Tested::Refused(Refusal::Length);
+    }
+    first_refusal(cells_ok(low, high, cells), Refusal::Cell, Tested::Accepted)
+}
+
+// The tests of a board call, which lends slices of the lengths `lent` too. These are measured before the board: test 2 is one refusal for all.
 pub fn test_board(
     edgeless: bool,
     rows: usize,
@@ -214,46 +230,35 @@ pub fn test_board(
     row: usize,
     column: usize,
     cells: &[u8],
-    picture: usize,
+    lent: &[usize],
 ) -> Tested
-    ensures { λ r. ⌜ r ≡ boardTested edgeless rows columns row column (now (cells .entry)) picture ⌝ }
+    ensures { λ r. ⌜ r ≡ boardTested edgeless rows columns row column (now (cells .entry)) (now (lent .entry)) ⌝ }
 {
-    if !size_ok(1, rows, columns) {
-        return Tested::Refused(Refusal::Size);
+    if size_ok(1, rows, columns) {
+        if !lengths_ok(rows, columns, lent) {
+            return Tested::Refused(Refusal::Length);
+        }
     }
-    if !length_ok(rows, columns, cells.len()) {
-        return Tested::Refused(Refusal::Length);
+    match test_cells(1, rows, columns, 255, 255, cells) {
+        Tested::Refused(refusal) => Tested::Refused(refusal),
+        Tested::Accepted => {
+            let numbers = numbers_ok(edgeless, rows, columns, cells);
+            let zero = zero_ok(row, column, cells);
+            let last = first_refusal(zero, Refusal::NoZero, Tested::Accepted);
+            let later = first_refusal(numbers, Refusal::Number, last);
+            first_refusal(start_ok(rows, columns, row, column), Refusal::Start, later)
+        }
     }
-    if !length_ok(rows, columns, picture) {
-        return Tested::Refused(Refusal::Length);
-    }
-    if !board_cells_ok(cells) {
-        return Tested::Refused(Refusal::Cell);
-    }
-    if !start_ok(rows, columns, row, column) {
-        return Tested::Refused(Refusal::Start);
-    }
-    let numbers = numbers_ok(edgeless, rows, columns, cells);
-    number_then_zero(numbers, zero_ok(row, column, cells))
 }
 
 // The tests of a call on a position.
 pub fn test_position(rows: usize, columns: usize, position: &[u8]) -> Tested
     ensures { λ r. ⌜ r ≡ positionTested rows columns (now (position .entry)) ⌝ }
 {
-    if !size_ok(1, rows, columns) {
-        return Tested::Refused(Refusal::Size);
-    }
-    if !length_ok(rows, columns, position.len()) {
-        return Tested::Refused(Refusal::Length);
-    }
-    if !position_cells_ok(position) {
-        return Tested::Refused(Refusal::Cell);
-    }
-    Tested::Accepted
+    test_cells(1, rows, columns, 10, 12, position)
 }
 
-// The tests of a deduction, which lends lists of `safe` and `mines` entries.
+// The tests of a deduction, which lends lists of `safe` and `mines` entries. These are measured before the position: test 2 is one refusal for all.
 pub fn test_deduction(
     rows: usize,
     columns: usize,
@@ -263,36 +268,20 @@ pub fn test_deduction(
 ) -> Tested
     ensures { λ r. ⌜ r ≡ deductionTested rows columns (now (position .entry)) safe mines ⌝ }
 {
-    if !size_ok(1, rows, columns) {
-        return Tested::Refused(Refusal::Size);
+    if size_ok(1, rows, columns) {
+        if !room_ok(rows, columns, safe) {
+            return Tested::Refused(Refusal::Length);
+        }
+        if !room_ok(rows, columns, mines) {
+            return Tested::Refused(Refusal::Length);
+        }
     }
-    if !length_ok(rows, columns, position.len()) {
-        return Tested::Refused(Refusal::Length);
-    }
-    if !room_ok(rows, columns, safe) {
-        return Tested::Refused(Refusal::Length);
-    }
-    if !room_ok(rows, columns, mines) {
-        return Tested::Refused(Refusal::Length);
-    }
-    if !position_cells_ok(position) {
-        return Tested::Refused(Refusal::Cell);
-    }
-    Tested::Accepted
+    test_position(rows, columns, position)
 }
 
 // The tests of the pattern call, which looks at mines only.
 pub fn test_pattern(rows: usize, columns: usize, cells: &[u8]) -> Tested
     ensures { λ r. ⌜ r ≡ patternTested rows columns (now (cells .entry)) ⌝ }
 {
-    if !size_ok(3, rows, columns) {
-        return Tested::Refused(Refusal::Size);
-    }
-    if !length_ok(rows, columns, cells.len()) {
-        return Tested::Refused(Refusal::Length);
-    }
-    if !board_cells_ok(cells) {
-        return Tested::Refused(Refusal::Cell);
-    }
-    Tested::Accepted
+    test_cells(3, rows, columns, 255, 255, cells)
 }

@@ -2,7 +2,7 @@
 -- Rests on `answer-demand-3` of the crate verdict. Assumes nothing.
 use mathlib.Core.Path.{_≡_, refl}
 use mathlib.Core.Logic.{_≢_}
-use mathlib.Core.List.{List}
+use mathlib.Core.List.{List, [], _∷_}
 use Prim.Native.Nat.{ℕ}
 use lib.ListN.{replicate, length-replicate}
 use Rattle.grid.specs.Cells.{cellOf}
@@ -15,7 +15,7 @@ use Rattle.records.specs.Records.{pictureSize}
 use Rattle.records.specs.Answers.{boardVerdict}
 
 module _ (rows columns row column : ℕ) (b : List ℕ) where
-  pub line-demand-3 : boardTested rows columns row column b (pictureSize rows columns) ≡ Accepted → cellOf b (startCell columns row column b) ≢ 255
+  pub line-demand-3 : boardTested rows columns row column b (pictureSize rows columns ∷ []) ≡ Accepted → cellOf b (startCell columns row column b) ≢ 255
       → (shown : List ℕ) × MeetsDemand3 (neighbours rows columns) b (startCell columns row column b) (boardVerdict rows columns row column b) shown
   unfolding boardVerdict
   line-demand-3 tests safe = (

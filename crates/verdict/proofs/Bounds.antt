@@ -3,7 +3,7 @@
 use mathlib.Core.Path.{_≡_, refl, ap}
 use mathlib.Core.Logic.{inl, inr}
 use mathlib.Core.Bool.{Bool}
-use mathlib.Core.List.{List}
+use mathlib.Core.List.{List, [], _∷_}
 use Prim.Native.Nat.{ℕ, _≤_, _<_}
 use native.Mathlib.Omega.{arith}
 use lib.Dec.{eqb}
@@ -64,7 +64,7 @@ judged-rounds edgeless rows columns b s ok l = go (decided (eqb (cellOf b s) 255
 
 module _ (edgeless : Bool) (rows columns row column : ℕ) (b shown : List ℕ) where
   abbrev tests : Tested
-  tests = boardTested edgeless rows columns row column b (length shown)
+  tests = boardTested edgeless rows columns row column b (length shown ∷ [])
 
   abbrev judged : VerdictSeen
   judged = judgedFrom (neighbours edgeless rows columns) b (startCell columns row column b)
@@ -85,8 +85,8 @@ module _ (edgeless : Bool) (rows columns row column : ℕ) (b shown : List ℕ) 
     where
       go : (t : Tested) → tests ≡ t → verdictRounds (afterTests t judged shown .answer) ≤ length b
       go Accepted e =
-          judged-rounds edgeless rows columns b (startCell columns row column b) (tested-accepted edgeless rows columns row column b (length shown) e)
-          (accepted-board edgeless rows columns row column b (length shown) e .start-within)
+          judged-rounds rows columns b (startCell columns row column b) (tested-accepted edgeless rows columns row column b (length shown ∷ []) e)
+          (accepted-board edgeless rows columns row column b (length shown ∷ []) e .start-within)
       go (TestRefused x) e = omega arith
 
   -- so of an answer that is the definition's

@@ -4,7 +4,7 @@
 use mathlib.Core.Path.{_≡_, refl, ap, _∙_}
 use mathlib.Core.Logic.{_≢_}
 use mathlib.Core.Bool.{Bool}
-use mathlib.Core.List.{List}
+use mathlib.Core.List.{List, [], _∷_}
 use Prim.Native.Nat.{ℕ}
 use lib.ListN.{length}
 use borrow.Author.Tests.{ne-eqb, eqb-false}
@@ -41,16 +41,16 @@ module _ (edgeless : Bool) (rows columns row column : ℕ) (b shown : List ℕ) 
   passed = judge (neighbours edgeless rows columns) b (threeRules (neighbours edgeless rows columns)) start
 
   -- the tests refuse: the answer is their refusal, and the picture stays as it was
-  module _ (x : Refusal) (tests : boardTested edgeless rows columns row column b (length shown) ≡ TestRefused x) where
+  module _ (x : Refusal) (tests : boardTested edgeless rows columns row column b (length shown ∷ []) ≡ TestRefused x) where
     pub tests-refuse : verdictSeen (Refused x) shown ≡ isSolvable edgeless rows columns row column b shown
     unfolding isSolvable
     tests-refuse = rw tests
 
     -- demand 3 is asked of accepted boards only
-    pub refusal-demand-3 : {P : Type 0} → boardTested edgeless rows columns row column b (length shown) ≡ Accepted → P
-    refusal-demand-3 accepted = not-both (boardTested edgeless rows columns row column b (length shown)) x accepted tests
+    pub refusal-demand-3 : {P : Type 0} → boardTested edgeless rows columns row column b (length shown ∷ []) ≡ Accepted → P
+    refusal-demand-3 accepted = not-both (boardTested edgeless rows columns row column b (length shown ∷ [])) x accepted tests
 
-  module _ (tests : boardTested edgeless rows columns row column b (length shown) ≡ Accepted) where
+  module _ (tests : boardTested edgeless rows columns row column b (length shown ∷ []) ≡ Accepted) where
     -- the tests accept: the verdict is that from the start's cell
     pub tests-accept : isSolvable edgeless rows columns row column b shown ≡ judgedFrom (neighbours edgeless rows columns) b (startCell columns row column b)
     unfolding isSolvable
@@ -65,8 +65,8 @@ module _ (edgeless : Bool) (rows columns row column : ℕ) (b shown : List ℕ) 
 
       passes-demand-3 : Demand3 (neighbours edgeless rows columns) b start (passed .yes) (opened (passed .position)) (picture (passed .position))
       passes-demand-3 =
-          judge-demand-3 (neighbours edgeless rows columns) b (threeRules (neighbours edgeless rows columns)) start (tested-accepted edgeless rows columns row column b (length shown) tests)
-          (accepted-board edgeless rows columns row column b (length shown) tests .start-within) safe
+          judge-demand-3 (neighbours edgeless rows columns) b (threeRules (neighbours edgeless rows columns)) start (tested-accepted edgeless rows columns row column b (length shown ∷ []) tests)
+          (accepted-board edgeless rows columns row column b (length shown ∷ []) tests .start-within) safe
           (board-rules-sound edgeless rows columns b) (board-rules-complete edgeless rows columns b)
 
       -- demand 3 of an answer that is the definition's

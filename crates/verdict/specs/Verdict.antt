@@ -65,7 +65,7 @@ afterTests (TestRefused r) w shown = verdictSeen (Refused r) shown
 
 unfoldable pub isSolvable : Bool → ℕ → ℕ → ℕ → ℕ → List ℕ → List ℕ → VerdictSeen
 isSolvable edgeless rows columns row column b shown =
-    afterTests (boardTested edgeless rows columns row column b (length shown)) (judgedFrom (neighbours edgeless rows columns) b (startCell columns row column b)) shown
+    afterTests (boardTested edgeless rows columns row column b (length shown ∷ [])) (judgedFrom (neighbours edgeless rows columns) b (startCell columns row column b)) shown
 
 -- demand 3 of an answer that isn't a refusal
 abbrev pub MeetsDemand3 : (ℕ → List ℕ) → List ℕ → ℕ → Verdict → List ℕ → Type 0

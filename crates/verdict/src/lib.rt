@@ -10,6 +10,7 @@ use refusals::start_cell;
 use refusals::test_board;
 ghost use mathlib.Core.Path.{_≡_};
 ghost use mathlib.Core.Logic.{_≢_};
+ghost use mathlib.Core.List.{[], _∷_};
 ghost use Prim.Native.Nat.{_*_, _<_};
 ghost use lib.ListN.{length, replicate};
 ghost use Rattle.grid.specs.Cells.{cellOf};
@@ -111,11 +112,12 @@ pub fn is_solvable(
     picture: &mut [u8],
 ) -> Verdict
     ensures { λ r. ⌜ verdictSeen r (now (picture .exit)) ≡ isSolvable edgeless rows columns «start_row» «start_column» (now (cells .entry)) (now (picture .entry)) ⌝ }
-    ensures { λ r. ⌜ (boardTested edgeless rows columns «start_row» «start_column» (now (cells .entry)) (length (now (picture .entry))) ≡ TestAccepted
+    ensures { λ r. ⌜ (boardTested edgeless rows columns «start_row» «start_column» (now (cells .entry)) (length (now (picture .entry)) ∷ []) ≡ TestAccepted
         → cellOf (now (cells .entry)) (startCell columns «start_row» «start_column» (now (cells .entry))) ≢ 255
         → MeetsDemand3 (neighbours edgeless rows columns) (now (cells .entry)) (startCell columns «start_row» «start_column» (now (cells .entry))) r (now (picture .exit))) ⌝ }
 {
-    match test_board(edgeless, rows, columns, start_row, start_column, cells, picture.len()) {
+    let lent = [picture.len()];
+    match test_board(edgeless, rows, columns, start_row, start_column, cells, &lent) {
         Tested::Refused(refusal) => Verdict::Refused(refusal),
         Tested::Accepted => {
             let start = start_cell(rows, columns, start_row, start_column, cells);

@@ -1,130 +1,115 @@
--- `test_board` meets its contract: a return after some tests is what the list of tests gives where the earlier ones pass. Rests on the contracts of the
--- single tests. Assumes nothing.
+-- `test_board` meets its contract: where the size is right a lent length that is wrong fails test 2, whatever the board's own; else tests 1 to 3 are those of the
+-- board alone, and the others follow. Rests on the law of two lists of tests and on the contracts of the calls. Assumes nothing.
+use mathlib.Core.Path.{_≡_, sym, _∙_}
+use mathlib.Core.Logic.{⊎-elim}
+use mathlib.Core.Bool.{and-true, and-false}
+use mathlib.Core.List.{_++_}
 use borrow.Author.Needs.{needs}
-use Rattle.refusals.specs.Tests.{boardTested}
-use Rattle.refusals.proofs.Sides.{sizeOk-sized, lengthOk-is}
-use Rattle.refusals.proofs.FirstFailure.{passed, failed}
+use lib.ListN.{drop}
+use Rattle.lists.specs.Lists.{all}
+use Rattle.refusals.specs.declared.Tested.{Tested}
+use Rattle.refusals.specs.Refusals.{tested}
+use Rattle.refusals.specs.Tests.{boardTests, boardTested}
+use Rattle.refusals.specs.SharedTests.{cellIn, cellTests}
+use Rattle.refusals.proofs.Sides.{sizeOk-sized}
+use Rattle.refusals.proofs.CellValues.{board-cells-in}
+use Rattle.refusals.proofs.FirstFailure.{passed, failed, thenTested, tested-append}
+use Rattle.refusals.proofs.Accepted.{accepted-cells}
 use Rattle.refusals.proofs.test_board.Statement.{statement}
 use Rattle.refusals.proofs.test_board.Tie as tie
 
 size-ok-requires : tie.Need-size-ok-requires
 size-ok-requires c κs = search needs
 
+lengths-ok-requires : tie.Need-lengths-ok-requires
+lengths-ok-requires c κs = sizeOk-sized 1 _ _ (sym (c .before .size-ok .ensures) ∙ c .if1 .taken)
+
 returns : tie.Need-returns
 unfolding boardTested
-returns c = rw (failed (c .before .size-ok .ensures) (c .if1 .taken))
-
-length-ok-requires : tie.Need-length-ok-requires
-length-ok-requires c κs = sizeOk-sized 1 _ _ (passed (c .before .size-ok .ensures) (c .if1 .left))
-
-returns-2 : tie.Need-returns-2
-unfolding boardTested
-returns-2 c =
+returns c =
     let size = c .before .before in
-    rw (
-      passed (size .before .size-ok .ensures) (size .if1 .left),
-      failed (c .before .length-ok .ensures) (c .if2 .taken),
-    )
+    rw (sym (size .before .size-ok .ensures) ∙ size .if1 .taken, failed (c .before .lengths-ok .ensures) (c .if2 .taken), and-false)
 
-length-ok-requires-2 : tie.Need-length-ok-requires-2
-length-ok-requires-2 c κs = sizeOk-sized 1 _ _ (passed (c .before .before .before .size-ok .ensures) (c .before .before .if1 .left))
+test-cells-requires : tie.Need-test-cells-requires
+test-cells-requires c κs = search needs
 
-returns-3 : tie.Need-returns-3
+enum-known-refusal : tie.Need-enum-known-refusal
+enum-known-refusal c = search needs
+
+enum-told : tie.Need-enum-told
+enum-told c = search needs
+
+-- the tests after the first three are what is left once these have answered
+after-cells : (c : tie.After-test-cells) {answer : Tested} → c .test-cells .result ≡ answer
+    → (let a = c .before .before .before .before .before .args in
+    thenTested answer (tested (drop 3 (boardTests (a .edgeless) (a .rows) (a .columns) (a .row) (a .column) (a .cells .now) (a .lent .now))))
+    ≡ boardTested (a .edgeless) (a .rows) (a .columns) (a .row) (a .column) (a .cells .now) (a .lent .now))
 unfolding boardTested
-returns-3 c =
-    let length = c .before .before in
-    let size = length .before .before in
-    rw (
-      passed (size .before .size-ok .ensures) (size .if1 .left),
-      passed (length .before .length-ok .ensures) (length .if2 .left),
-      failed (c .before .length-ok2 .ensures) (c .if3 .taken),
-    )
-
-board-cells-ok-requires : tie.Need-board-cells-ok-requires
-board-cells-ok-requires c κs = search needs
-
-returns-4 : tie.Need-returns-4
-unfolding boardTested
-returns-4 c =
-    let picture = c .before .before in
-    let length = picture .before .before in
-    let size = length .before .before in
-    rw (
-      passed (size .before .size-ok .ensures) (size .if1 .left),
-      passed (length .before .length-ok .ensures) (length .if2 .left),
-      passed (picture .before .length-ok2 .ensures) (picture .if3 .left),
-      failed (c .before .board-cells-ok .ensures) (c .if4 .taken),
-    )
-
-start-ok-requires : tie.Need-start-ok-requires
-start-ok-requires c κs = search needs
-
-returns-5 : tie.Need-returns-5
-unfolding boardTested
-returns-5 c =
-    let cells = c .before .before in
-    let picture = cells .before .before in
-    let length = picture .before .before in
-    let size = length .before .before in
-    rw (
-      passed (size .before .size-ok .ensures) (size .if1 .left),
-      passed (length .before .length-ok .ensures) (length .if2 .left),
-      passed (picture .before .length-ok2 .ensures) (picture .if3 .left),
-      passed (cells .before .board-cells-ok .ensures) (cells .if4 .left),
-      failed (c .before .start-ok .ensures) (c .if5 .taken),
-    )
+after-cells c told =
+    let a = c .before .before .before .before .before .args in
+    let cells = cellTests 1 (a .rows) (a .columns) (a .cells .now) (all (cellIn 255 255) (a .cells .now)) in
+    let rest = drop 3 (boardTests (a .edgeless) (a .rows) (a .columns) (a .row) (a .column) (a .cells .now) (a .lent .now)) in
+    let whole : tested (cells ++ rest) ≡ boardTested (a .edgeless) (a .rows) (a .columns) (a .row) (a .column) (a .cells .now) (a .lent .now) =
+    ⊎-elim
+    (λ w. rw (passed (w .1 .ensures) (w .2 .left), and-true, board-cells-in (a .cells .now)))
+    (λ w. rw (sym (c .before .before .size-ok .ensures) ∙ w .left))
+    (c .before .if1 .came) in
+    sym (tested-append cells rest (sym (c .test-cells .ensures) ∙ told)) ∙ whole
 
 numbers-ok-requires : tie.Need-numbers-ok-requires
 numbers-ok-requires c κs =
-    let length = c .before .before .before .before .before .before in
-    let size = length .before .before in
-    record {
-      sized = sizeOk-sized 1 _ _ (passed (size .before .size-ok .ensures) (size .if1 .left));
-      whole = lengthOk-is _ _ _ (passed (length .before .length-ok .ensures) (length .if2 .left));
-    }
+    let tests = c .before .before in
+    let a = tests .before .before .before .before .before .args in
+    accepted-cells 1 _ _ _ (all (cellIn 255 255) (a .cells .now)) (sym (tests .test-cells .ensures) ∙ c .enum-told .given .1)
 
 zero-ok-requires : tie.Need-zero-ok-requires
 zero-ok-requires c κs = search needs
 
-number-then-zero-requires : tie.Need-number-then-zero-requires
-number-then-zero-requires c κs = search needs
+first-refusal-requires : tie.Need-first-refusal-requires
+first-refusal-requires c κs = search needs
 
-returns-6 : tie.Need-returns-6
-unfolding boardTested
-returns-6 c =
-    let zero = c .before in
-    let numbers = zero .before in
-    let start = numbers .before in
-    let cells = start .before .before in
-    let picture = cells .before .before in
-    let length = picture .before .before in
-    let size = length .before .before in
+first-refusal-requires-2 : tie.Need-first-refusal-requires-2
+first-refusal-requires-2 c κs = search needs
+
+start-ok-requires : tie.Need-start-ok-requires
+start-ok-requires c κs = search needs
+
+first-refusal-requires-3 : tie.Need-first-refusal-requires-3
+first-refusal-requires-3 c κs = search needs
+
+returns-2 : tie.Need-returns-2
+returns-2 c = let told = c .before in after-cells (told .before .before) (told .refusal .given .1)
+
+returns-3 : tie.Need-returns-3
+returns-3 c =
+    let start = c .before in
+    let last = start .before .before in
+    let told = last .before .before .before in
     rw (
-      passed (size .before .size-ok .ensures) (size .if1 .left),
-      passed (length .before .length-ok .ensures) (length .if2 .left),
-      passed (picture .before .length-ok2 .ensures) (picture .if3 .left),
-      passed (cells .before .board-cells-ok .ensures) (cells .if4 .left),
-      passed (start .before .start-ok .ensures) (start .if5 .left),
-      c .number-then-zero .ensures,
-      numbers .numbers-ok .ensures,
-      zero .zero-ok .ensures,
+      c .first-refusal3 .ensures,
+      start .before .first-refusal2 .ensures,
+      last .first-refusal .ensures,
+      start .start-ok .ensures,
+      last .before .before .numbers-ok .ensures,
+      last .before .zero-ok .ensures,
     )
+    (after-cells (told .before .before) (told .enum-told .given .1))
 
 pub test-board-spec : {M : Type 1} → statement M
 test-board-spec =
     tie.close
     (tie.spec
     size-ok-requires
+    lengths-ok-requires
     returns
-    length-ok-requires
-    returns-2
-    length-ok-requires-2
-    returns-3
-    board-cells-ok-requires
-    returns-4
-    start-ok-requires
-    returns-5
+    test-cells-requires
+    enum-known-refusal
+    enum-told
     numbers-ok-requires
     zero-ok-requires
-    number-then-zero-requires
-    returns-6)
+    first-refusal-requires
+    first-refusal-requires-2
+    start-ok-requires
+    first-refusal-requires-3
+    returns-2
+    returns-3)

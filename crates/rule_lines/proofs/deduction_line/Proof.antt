@@ -30,7 +30,7 @@ position c = c .deduce .last .1 .1 .1 .1 .0
 
 -- it is as long as the line's cells
 same-cells : (c : tie.After-deduce) → length (position c) ≡ read c .read-line .result .len
-same-cells c = c .deduce .kept .1 .1 .1 .0 ∙ simp length-take (omega (arith, fits (read c)))
+same-cells c = c .deduce .kept .1 .1 .1 .1 .0 ∙ simp length-take (omega (arith, fits (read c)))
 
 -- so it is what stands in their place
 front : (c : tie.After-deduce)

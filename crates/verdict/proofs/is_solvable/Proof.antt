@@ -1,15 +1,20 @@
 -- `is_solvable` meets its contract: a refusal by the tests ends the call; else the verdict is that from the cell that the start means, and demand 3 of it is the law
 -- of any answer that is the definition's. Rests on DemandThree and on the contracts of the calls. Assumes nothing.
-use mathlib.Core.Path.{_≡_, sym, _∙_}
+use mathlib.Core.Path.{_≡_, refl, sym, _∙_}
+use mathlib.Core.List.{[], _∷_}
+use native.Mathlib.Omega.{arith}
 use borrow.Author.Needs.{needs}
 use lib.ListN.{length}
 use Rattle.refusals.specs.declared.Tested.the-variants.{Accepted}
 use Rattle.refusals.specs.Tests.{boardTested}
-use Rattle.refusals.proofs.Accepted.{AcceptedBoard, accepted-board}
+use Rattle.refusals.proofs.Accepted.{AcceptedBoard, accepted-board, lent-length}
 use Rattle.fitting.proofs.Admitted.{tested-accepted}
 use Rattle.verdict.proofs.DemandThree.{tests-refuse, tests-accept, refusal-demand-3, answer-demand-3}
 use Rattle.verdict.proofs.is_solvable.Statement.{statement}
 use Rattle.verdict.proofs.is_solvable.Tie as tie
+
+slice-aggregate-test-board : tie.Need-slice-aggregate-test-board
+slice-aggregate-test-board c = refl
 
 test-board-requires : tie.Need-test-board-requires
 test-board-requires c κs = search needs
@@ -22,14 +27,14 @@ enum-told c = search needs
 
 -- the tests accept
 tests : (c : tie.After-enum-told)
-    → (let a = c .before .before .before .before .before .args in
-    boardTested (a .edgeless) (a .rows) (a .columns) (a .start-row) (a .start-column) (a .cells .now) (length (a .picture .now)) ≡ Accepted)
+    → (let a = c .before .before .before .before .before .before .args in
+    boardTested (a .edgeless) (a .rows) (a .columns) (a .start-row) (a .start-column) (a .cells .now) (length (a .picture .now) ∷ []) ≡ Accepted)
 tests c = sym (c .before .before .test-board .ensures) ∙ c .enum-told .given .1
 
 -- so this is known of the input
 facts : (c : tie.After-enum-told)
-    → (let a = c .before .before .before .before .before .args in
-    AcceptedBoard (a .edgeless) (a .rows) (a .columns) (a .start-row) (a .start-column) (a .cells .now) (length (a .picture .now)))
+    → (let a = c .before .before .before .before .before .before .args in
+    AcceptedBoard (a .edgeless) (a .rows) (a .columns) (a .start-row) (a .start-column) (a .cells .now) (length (a .picture .now) ∷ []))
 facts c = accepted-board _ _ _ _ _ _ _ (tests c)
 
 start-cell-requires : tie.Need-start-cell-requires
@@ -39,7 +44,7 @@ judge-requires : tie.Need-judge-requires
 judge-requires c κs =
     let accepts = c .before .before in
     let accepted = facts accepts in (
-      (accepted .board, record { sized = accepted .board .sized; whole = accepted .picture }),
+      (accepted .board, record { sized = accepted .board .sized; whole = lent-length accepted 0 (omega arith) }),
       (tested-accepted _ _ _ _ _ _ _ (tests accepts), rw (c .before .start-cell .ensures) (accepted .start-within)),
     )
 
@@ -47,7 +52,7 @@ returns : tie.Need-returns
 returns c =
     let told = c .before .refusal .given in
     let tested = c .before .before .before in
-    let a = tested .before .before .before .args in
+    let a = tested .before .before .before .before .args in
     let refuses = sym (tested .test-board .ensures) ∙ told .1 in (
       tests-refuse _ _ _ _ _ _ (a .picture .now) (told .0 .0) refuses,
       λ accepts _. refusal-demand-3 _ _ _ _ _ _ (a .picture .now) (told .0 .0) refuses accepts,
@@ -61,7 +66,7 @@ returns-2 c =
     let judged = c .before .before in
     let started = judged .before .before in
     let accepts = started .before in
-    let a = accepts .before .before .before .before .before .args in
+    let a = accepts .before .before .before .before .before .before .args in
     let seen = (rw (started .start-cell .ensures) at (judged .judge .ensures))
     ∙ sym (tests-accept _ _ _ _ _ _ (a .picture .now) (tests accepts)) in (
       seen,
@@ -72,6 +77,7 @@ pub is-solvable-spec : {M : Type 1} → statement M
 is-solvable-spec =
     tie.close
     (tie.spec
+    slice-aggregate-test-board
     test-board-requires
     enum-known-refusal
     enum-told
