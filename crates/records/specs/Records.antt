@@ -4,7 +4,7 @@
 use mathlib.Core.Bool.{Bool, cond, _&&_}
 use mathlib.Core.List.{List, [], _∷_}
 use Prim.Native.Nat.{ℕ, _+_, _-_, _*_}
-use lib.Dec.{leb, ltb, eqb}
+use lib.Dec.{ltb, eqb}
 use lib.ListN.{length, getD, take, drop}
 use Rattle.refusals.specs.declared.Refusal.the-variants.{Mark, Short}
 use Rattle.records.specs.declared.Record.{Record}
@@ -31,7 +31,3 @@ recordOf (x ∷ y ∷ l) =
 -- the cells of a whole record
 abbrev pub cellsIn : List ℕ → List ℕ
 cellsIn input = take (recordLength input - 6) (drop 6 input)
-
--- how many bytes of picture a board is lent: one for each cell, and none for a board that test 1 refuses
-unfoldable pub pictureSize : ℕ → ℕ → ℕ
-pictureSize rows columns = cond (leb rows 32 && leb columns 32) (rows * columns) 0

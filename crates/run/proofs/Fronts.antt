@@ -16,7 +16,7 @@ use Rattle.verdict.specs.declared.Verdict.the-variants.{Refused}
 use Rattle.records.specs.declared.Record.{Record}
 use Rattle.records.specs.declared.Record.the-variants.{End, Damaged, Whole}
 use Rattle.records.specs.Records.{recordLength, recordOf, cellsIn}
-use Rattle.records.specs.Answers.{boardVerdict}
+use Rattle.record_lines.specs.Answers.{boardVerdict}
 use Rattle.records.proofs.RecordKinds.{length-most, end-nothing, damaged-kinds}
 use Rattle.run.specs.declared.Next.{Next}
 use Rattle.run.specs.declared.Next.the-variants.{Waits, Ended, Damage, Board}

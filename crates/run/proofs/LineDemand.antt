@@ -11,8 +11,7 @@ use Rattle.refusals.specs.declared.Tested.the-variants.{Accepted}
 use Rattle.refusals.specs.Tests.{boardTested, startCell}
 use Rattle.verdict.specs.Verdict.{isSolvable, MeetsDemand3}
 use Rattle.verdict.proofs.DemandThree.{answer-demand-3}
-use Rattle.records.specs.Records.{pictureSize}
-use Rattle.records.specs.Answers.{boardVerdict}
+use Rattle.record_lines.specs.Answers.{pictureSize, boardVerdict}
 
 module _ (rows columns row column : ℕ) (b : List ℕ) where
   pub line-demand-3 : boardTested rows columns row column b (pictureSize rows columns) ≡ Accepted → cellOf b (startCell columns row column b) ≢ 255

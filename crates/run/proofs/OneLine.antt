@@ -13,11 +13,11 @@ use Rattle.verdict.specs.declared.Verdict.the-variants.{Refused}
 use Rattle.records.specs.declared.Record.{Record}
 use Rattle.records.specs.declared.Record.the-variants.{End, Damaged, Whole}
 use Rattle.records.specs.Records.{recordLength, recordOf, cellsIn}
-use Rattle.records.specs.Answers.{boardVerdict, lineText}
+use Rattle.record_lines.specs.Answers.{boardVerdict, lineText}
 use Rattle.records.proofs.RecordKinds.{six-or-more, end-nothing, whole-inside}
 use Rattle.text.specs.Text.{Written}
 use Rattle.text.proofs.Writing.{written-within}
-use Rattle.records.proofs.LineRoom.{line-few, written-whole}
+use Rattle.record_lines.proofs.LineRoom.{line-few, written-whole}
 use Rattle.run.specs.declared.RunState.{RunState}
 use Rattle.run.specs.declared.RunState.the-variants.{GoesOn, Complete, Stopped}
 use Rattle.run.specs.declared.Tally.{Tally}

@@ -9,7 +9,7 @@ use lib.ListN.{length, getD, drop-of-length-le}
 use Rattle.verdict.specs.declared.Verdict.{Verdict}
 use Rattle.records.specs.declared.Record.the-variants.{Whole}
 use Rattle.records.specs.Records.{recordLength, marked, recordOf, cellsIn}
-use Rattle.records.specs.Answers.{boardVerdict, lineText}
+use Rattle.record_lines.specs.Answers.{boardVerdict, lineText}
 use Rattle.records.proofs.RecordKinds.{six-or-more, record-whole}
 use Rattle.run.specs.Run.{verdicts, lines}
 use Rattle.run.proofs.Verdicts.{verdicts-whole}

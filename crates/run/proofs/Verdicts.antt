@@ -14,7 +14,7 @@ use Rattle.verdict.specs.declared.Verdict.the-variants.{Refused}
 use Rattle.records.specs.declared.Record.{Record}
 use Rattle.records.specs.declared.Record.the-variants.{End, Damaged, Whole}
 use Rattle.records.specs.Records.{recordLength, recordOf, cellsIn}
-use Rattle.records.specs.Answers.{boardVerdict}
+use Rattle.record_lines.specs.Answers.{boardVerdict}
 use Rattle.records.proofs.RecordKinds.{six-or-more, whole-inside, whole-beside, mark-beside}
 use Rattle.run.specs.Run.{verdictsAfter, verdictsOf, verdicts}
 

@@ -12,7 +12,7 @@ use Rattle.verdict.specs.Verdict.{verdictNumber, verdictYes}
 use Rattle.records.specs.declared.Record.{Record}
 use Rattle.records.specs.declared.Record.the-variants.{End, Damaged, Whole}
 use Rattle.records.specs.Records.{recordLength, recordOf, cellsIn}
-use Rattle.records.specs.Answers.{boardVerdict, lineText}
+use Rattle.record_lines.specs.Answers.{boardVerdict, lineText}
 use Rattle.run.specs.declared.Tally.{Tally}
 
 -- ---- the verdicts of an input

@@ -11,7 +11,7 @@ use Rattle.verdict.specs.declared.Verdict.{Verdict}
 use Rattle.records.specs.declared.Record.{Record}
 use Rattle.records.specs.declared.Record.the-variants.{End, Damaged, Whole}
 use Rattle.records.specs.Records.{recordLength, recordOf, cellsIn}
-use Rattle.records.specs.Answers.{boardVerdict, lineText}
+use Rattle.record_lines.specs.Answers.{boardVerdict, lineText}
 use Rattle.run.specs.declared.RunState.{RunState}
 use Rattle.run.specs.declared.RunState.the-variants.{GoesOn}
 use Rattle.run.specs.declared.Tally.{Tally}

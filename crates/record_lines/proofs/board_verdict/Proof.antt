@@ -2,10 +2,10 @@
 use mathlib.Core.Path.{ap}
 use native.Mathlib.Omega.{arith}
 use lib.ListN.{length, length-take}
-use Rattle.records.proofs.Answering.{verdict-of-zeros}
+use Rattle.record_lines.proofs.Answering.{verdict-of-zeros}
 use borrow.Author.Needs.{needs}
-use Rattle.records.proofs.board_verdict.Statement.{statement}
-use Rattle.records.proofs.board_verdict.Tie as tie
+use Rattle.record_lines.proofs.board_verdict.Statement.{statement}
+use Rattle.record_lines.proofs.board_verdict.Tie as tie
 
 picture-size-requires : tie.Need-picture-size-requires
 picture-size-requires c κs = search needs

@@ -6,8 +6,7 @@ use native.Mathlib.Omega.{arith}
 use lib.ListN.{take, replicate}
 use Rattle.verdict.specs.declared.Verdict.{Verdict}
 use Rattle.verdict.specs.Verdict.{VerdictSeen, verdictSeen, isSolvable}
-use Rattle.records.specs.Records.{pictureSize}
-use Rattle.records.specs.Answers.{boardVerdict}
+use Rattle.record_lines.specs.Answers.{pictureSize, boardVerdict}
 
 -- the first of equal elements
 pub take-replicate : {A : Type 0} (k n : ℕ) (x : A) → k ≤ n → take k (replicate n x) ≡ replicate k x

@@ -1,15 +1,14 @@
 -- The line that answers a record (SPECIFICATION 5.3): number, verdict, opened, grade, rounds; or number, `refused`, the refusal. And the verdict of a whole
 -- record. Assumes nothing.
-use mathlib.Core.Bool.{Bool, cond}
+use mathlib.Core.Bool.{Bool, cond, _&&_}
 use mathlib.Core.List.{List, [], _∷_, _++_}
-use Prim.Native.Nat.{ℕ}
-use lib.Dec.{eqb}
+use Prim.Native.Nat.{ℕ, _*_}
+use lib.Dec.{leb, eqb}
 use lib.ListN.{replicate}
 use Rattle.verdict.specs.declared.Verdict.{Verdict}
 use Rattle.verdict.specs.declared.Verdict.the-variants.{Refused}
 use Rattle.verdict.specs.Verdict.{verdictNumber, verdictYes, verdictOpened, verdictGrade, verdictRounds, isSolvable}
 use Rattle.text.specs.Text.{decimal}
-use Rattle.records.specs.Records.{pictureSize}
 
 -- `yes ` and `no `
 abbrev pub verdictWord : Bool → List ℕ
@@ -25,6 +24,10 @@ verdictText v =
 -- `1 yes 2 0 0` and the end of the line
 unfoldable pub lineText : ℕ → Verdict → List ℕ
 lineText number v = decimal number ++ (32 ∷ (verdictText v ++ (10 ∷ [])))
+
+-- how many bytes of picture a board is lent: one for each cell, and none for a board that test 1 refuses
+unfoldable pub pictureSize : ℕ → ℕ → ℕ
+pictureSize rows columns = cond (leb rows 32 && leb columns 32) (rows * columns) 0
 
 -- the verdict of a record's board, lent a picture of zeros
 unfoldable pub boardVerdict : ℕ → ℕ → ℕ → ℕ → List ℕ → Verdict
