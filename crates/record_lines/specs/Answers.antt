@@ -5,6 +5,9 @@ use mathlib.Core.List.{List, [], _∷_, _++_}
 use Prim.Native.Nat.{ℕ, _*_}
 use lib.Dec.{leb, eqb}
 use lib.ListN.{replicate}
+use Rattle.refusals.specs.declared.Refusal.the-variants.{Mark}
+use Rattle.records.specs.declared.BoardMark.{BoardMark}
+use Rattle.records.specs.declared.BoardMark.the-variants.{Plain, Unknown}
 use Rattle.verdict.specs.declared.Verdict.{Verdict}
 use Rattle.verdict.specs.declared.Verdict.the-variants.{Refused}
 use Rattle.verdict.specs.Verdict.{verdictNumber, verdictYes, verdictOpened, verdictGrade, verdictRounds, isSolvable}
@@ -30,5 +33,6 @@ unfoldable pub pictureSize : ℕ → ℕ → ℕ
 pictureSize rows columns = cond (leb rows 32 && leb columns 32) (rows * columns) 0
 
 -- the verdict of a record's board, lent a picture of zeros
-unfoldable pub boardVerdict : ℕ → ℕ → ℕ → ℕ → List ℕ → Verdict
-boardVerdict rows columns row column cells = isSolvable rows columns row column cells (replicate (pictureSize rows columns) 0) .answer
+unfoldable pub boardVerdict : BoardMark → ℕ → ℕ → ℕ → ℕ → List ℕ → Verdict
+boardVerdict Plain rows columns row column cells = isSolvable rows columns row column cells (replicate (pictureSize rows columns) 0) .answer
+boardVerdict Unknown rows columns row column cells = Refused Mark

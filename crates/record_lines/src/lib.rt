@@ -1,4 +1,6 @@
 // The lines that answer board records, and the verdict of a whole one. A line is the record's number, then the verdict and its three numbers, or `refused` and the refusal's.
+use records::BoardMark;
+use refusals::Refusal;
 use refusals::refusal_number;
 use text::put_byte;
 use text::put_bytes;
@@ -77,15 +79,19 @@ fn zeros() -> [u8; 1024]
 
 // The verdict of a record's board. The picture is lent for the time of the call.
 pub fn board_verdict(
+    mark: BoardMark,
     rows: usize,
     columns: usize,
     row: usize,
     column: usize,
     cells: &[u8],
 ) -> Verdict
-    ensures { λ r. ⌜ r ≡ boardVerdict rows columns row column (now (cells .entry)) ⌝ }
+    ensures { λ r. ⌜ r ≡ boardVerdict mark rows columns row column (now (cells .entry)) ⌝ }
 {
     let size = picture_size(rows, columns);
     let mut picture = zeros();
-    is_solvable(rows, columns, row, column, cells, &mut picture[..size])
+    match mark {
+        BoardMark::Plain => is_solvable(rows, columns, row, column, cells, &mut picture[..size]),
+        BoardMark::Unknown => Verdict::Refused(Refusal::Mark),
+    }
 }

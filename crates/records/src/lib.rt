@@ -1,9 +1,17 @@
-// The format of board records, and nothing of what they are answered. A record is the mark 4D 42, rows, columns, start row, start column, a byte each, and the cells row by row. What a
-// part of the input that begins at a record is, is decided here.
+// The format of board records. A record is a mark of two bytes, then rows, columns, start row, start column, a byte each, and the cells row by row. What a part of the
+// input is that begins where a record should, is decided here; by which line it is answered, in `record_lines`.
 use refusals::Refusal;
 ghost use mathlib.Core.Path.{_≡_};
 ghost use Prim.Native.Nat.{_≤_};
-ghost use Rattle.records.specs.Records.{recordLength, marked, recordOf};
+ghost use Rattle.records.specs.Records.{recordLength, boardMark, knownMark, recordOf};
+
+// What the first two bytes of a record mark: a case for each mark that is known, and one for all others.
+pub enum BoardMark {
+    // 4D 42: a plain board.
+    Plain,
+    // No mark that is known.
+    Unknown,
+}
 
 // What a part of the input is that begins where a record should.
 pub enum Record {
@@ -11,8 +19,8 @@ pub enum Record {
     End,
     // No known mark, or too short: the run ends after its line.
     Damaged(Refusal),
-    // A whole record: rows, columns, start row, start column.
-    Whole(usize, usize, usize, usize),
+    // A whole record: its mark, rows, columns, start row, start column.
+    Whole(BoardMark, usize, usize, usize, usize),
 }
 
 // A byte, as wide as a number.
@@ -33,11 +41,27 @@ pub fn record_length(head: &[u8]) -> usize
     6 + wide_byte(head[2]) * wide_byte(head[3])
 }
 
-// Are the two bytes a known mark?
-pub fn is_mark(first: u8, second: u8) -> bool
-    ensures { λ r. ⌜ r ≡ marked first second ⌝ }
+// The mark that two bytes are.
+pub fn board_mark(first: u8, second: u8) -> BoardMark
+    ensures { λ r. ⌜ r ≡ boardMark first second ⌝ }
 {
-    if first == 77 { second == 66 } else { false }
+    if first != 77 {
+        return BoardMark::Unknown;
+    }
+    if second == 66 {
+        return BoardMark::Plain;
+    }
+    BoardMark::Unknown
+}
+
+// Is it a known mark?
+fn is_known(mark: BoardMark) -> bool
+    ensures { λ r. ⌜ r ≡ knownMark mark ⌝ }
+{
+    match mark {
+        BoardMark::Plain => true,
+        BoardMark::Unknown => false,
+    }
 }
 
 // Reads a record. The mark comes first: two bytes that are no mark are refusal 10, whatever follows.
@@ -50,13 +74,15 @@ pub fn read_record(input: &[u8]) -> Record
     if input.len() < 2 {
         return Record::Damaged(Refusal::Short);
     }
-    if !is_mark(input[0], input[1]) {
+    let mark = board_mark(input[0], input[1]);
+    if !is_known(mark) {
         return Record::Damaged(Refusal::Mark);
     }
     if input.len() < record_length(input) {
         return Record::Damaged(Refusal::Short);
     }
     Record::Whole(
+        mark,
         wide_byte(input[2]),
         wide_byte(input[3]),
         wide_byte(input[4]),

@@ -33,7 +33,7 @@ nextAfterDamage refusal ended = cond ended (Damage refusal) (cond (eqb (refusalN
 abbrev pub nextAfter : Record → Bool → List ℕ → Next
 nextAfter End ended input = nextAfterEnd ended
 nextAfter (Damaged refusal) ended input = nextAfterDamage refusal ended
-nextAfter (Whole rows columns row column) ended input = Board (boardVerdict rows columns row column (cellsIn input)) (recordLength input)
+nextAfter (Whole mark rows columns row column) ended input = Board (boardVerdict mark rows columns row column (cellsIn input)) (recordLength input)
 
 unfoldable pub nextOf : Bool → List ℕ → Next
 nextOf ended input = nextAfter (recordOf input) ended input

@@ -89,9 +89,9 @@ fn next_verdict(input: &[u8], ended: bool) -> Next
     match read_record(input) {
         Record::End => next_after_end(ended),
         Record::Damaged(refusal) => next_after_damage(refusal, ended),
-        Record::Whole(rows, columns, row, column) => {
+        Record::Whole(mark, rows, columns, row, column) => {
             let end = record_length(input);
-            let verdict = board_verdict(rows, columns, row, column, &input[6..end]);
+            let verdict = board_verdict(mark, rows, columns, row, column, &input[6..end]);
             Next::Board(verdict, end)
         }
     }
