@@ -32,7 +32,7 @@ lineText number v = decimal number ++ (32 ∷ (verdictText v ++ (10 ∷ [])))
 unfoldable pub pictureSize : ℕ → ℕ → ℕ
 pictureSize rows columns = cond (leb rows 32 && leb columns 32) (rows * columns) 0
 
--- the verdict of a record's board, lent a picture of zeros
+-- the verdict of a record's board, by its mark: a plain board is judged, lent a picture of zeros
 unfoldable pub boardVerdict : BoardMark → ℕ → ℕ → ℕ → ℕ → List ℕ → Verdict
 boardVerdict Plain rows columns row column cells = isSolvable rows columns row column cells (replicate (pictureSize rows columns) 0) .answer
 boardVerdict Unknown rows columns row column cells = Refused Mark

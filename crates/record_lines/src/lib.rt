@@ -1,4 +1,5 @@
-// The lines that answer board records, and the verdict of a whole one. A line is the record's number, then the verdict and its three numbers, or `refused` and the refusal's.
+// The lines that answer board records, and the verdict of a whole one. A line is the record's number, then the verdict and its three numbers, or `refused` and the refusal's. What a
+// record is, `records` tells; which mark is judged how, is decided here.
 use records::BoardMark;
 use refusals::Refusal;
 use refusals::refusal_number;
@@ -77,7 +78,7 @@ fn zeros() -> [u8; 1024]
     [0; 1024]
 }
 
-// The verdict of a record's board. The picture is lent for the time of the call.
+// The verdict of a record's board, by its mark. The picture is lent for the time of the call.
 pub fn board_verdict(
     mark: BoardMark,
     rows: usize,
