@@ -12,8 +12,8 @@ use Rattle.text.proofs.Writing.{written-both}
 use Rattle.lines.specs.declared.StartLine.{StartLine}
 use Rattle.lines.specs.Lines.{startLineOf, unreadableText}
 use Rattle.lines.proofs.Answered.{unreadable-told, readable-told}
-use Rattle.records.specs.Answers.{verdictText}
-use Rattle.records.proofs.Answering.{take-replicate}
+use Rattle.record_lines.specs.Answers.{verdictText}
+use Rattle.record_lines.proofs.Answering.{take-replicate}
 use Rattle.board_lines.specs.Verdicts.{pictureText, verdictSeenText, verdictOn, verdictLine}
 
 -- what the caller sees

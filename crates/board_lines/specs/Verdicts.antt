@@ -11,7 +11,7 @@ use Rattle.show.specs.Cells.{cellsText}
 use Rattle.lines.specs.declared.Line.{Line}
 use Rattle.lines.specs.declared.StartLine.{StartLine}
 use Rattle.lines.specs.Lines.{startLineOf, unreadableText}
-use Rattle.records.specs.Answers.{verdictText}
+use Rattle.record_lines.specs.Answers.{verdictText}
 
 -- ` picture 1 10` behind a verdict, and nothing behind a refusal
 abbrev pub pictureText : Verdict → List ℕ → List ℕ

@@ -1,6 +1,6 @@
 // The answer of is_solvable to a line with a start, as text: `yes 2 0 0 picture 1 10`, or `refused 5`. The text of the verdict is the one that answers a record.
 use lines::read_start_line;
-use records::put_verdict;
+use record_lines::put_verdict;
 use show::put_cells;
 use text::put_bytes;
 use verdict::Verdict;

@@ -16,8 +16,8 @@ use Rattle.search.specs.Solutions.{weighed, solutions}
 use Rattle.solutions.specs.Enumeration.{safeCells, mineCells, enumerated}
 use Rattle.verdict.specs.Verdict.{judgedFrom, isSolvable}
 use Rattle.text.specs.Text.{decimal}
-use Rattle.records.specs.Records.{recordLength, recordOf, pictureSize}
-use Rattle.records.specs.Answers.{verdictText, lineText, boardVerdict}
+use Rattle.records.specs.Records.{recordLength, recordOf}
+use Rattle.record_lines.specs.Answers.{verdictText, lineText, pictureSize, boardVerdict}
 use Rattle.run.specs.Run.{verdicts, textFrom, printed}
 
 -- `4D 42 01 03 00 02 FF 01 00`, `4D 42 01 03 00 00 01 FF 01`, `4D 42 00 01 00 00`

@@ -1,5 +1,2 @@
--- Laws of board records and of the lines that answer them.
+-- Laws of the format of board records.
 pub mod RecordKinds
-pub mod LineWritten
-pub mod Answering
-pub mod LineRoom

@@ -15,8 +15,9 @@ use borrow.Author.Tests.{lt-ltb, le-ltb}
 use Rattle.lists.proofs.Tests.{Decided, decided}
 use Rattle.refusals.specs.declared.Refusal.{Refusal}
 use Rattle.refusals.specs.declared.Refusal.the-variants.{Mark, Short}
+use Rattle.records.specs.declared.BoardMark.{BoardMark}
 use Rattle.records.specs.declared.Record.the-variants.{End, Damaged, Whole}
-use Rattle.records.specs.Records.{recordLength, marked, recordOf, cellsIn}
+use Rattle.records.specs.Records.{recordLength, boardMark, knownMark, recordOf, cellsIn}
 
 -- ---- a record's length
 
@@ -59,6 +60,9 @@ length-most input bytes = go (ltb (length input) 6)
 
 -- ---- what a part of the input is
 
+abbrev pub markOf : List ℕ → BoardMark
+markOf input = boardMark (getD input 0 0) (getD input 1 0)
+
 pub record-none : (input : List ℕ) → length input ≡ 0 → End ≡ recordOf input
 unfolding recordOf
 record-none [] h = refl
@@ -70,20 +74,20 @@ record-lone [] n h = absurd (n refl)
 record-lone (x ∷ []) n h = refl
 record-lone (x ∷ y ∷ l) n h = absurd (omega arith)
 
-pub record-unmarked : (input : List ℕ) → 2 ≤ length input → marked (getD input 0 0) (getD input 1 0) ≡ false → Damaged Mark ≡ recordOf input
+pub record-unknown : (input : List ℕ) → 2 ≤ length input → knownMark (markOf input) ≡ false → Damaged Mark ≡ recordOf input
 unfolding recordOf
-record-unmarked [] h m = absurd (omega arith)
-record-unmarked (x ∷ []) h m = absurd (omega arith)
-record-unmarked (x ∷ y ∷ l) h m = rw m
+record-unknown [] h m = absurd (omega arith)
+record-unknown (x ∷ []) h m = absurd (omega arith)
+record-unknown (x ∷ y ∷ l) h m = rw m
 
-pub record-short : (input : List ℕ) → 2 ≤ length input → marked (getD input 0 0) (getD input 1 0) ≡ true → length input < recordLength input → Damaged Short ≡ recordOf input
+pub record-short : (input : List ℕ) → 2 ≤ length input → knownMark (markOf input) ≡ true → length input < recordLength input → Damaged Short ≡ recordOf input
 unfolding recordOf
 record-short [] h m s = absurd (omega arith)
 record-short (x ∷ []) h m s = absurd (omega arith)
 record-short (x ∷ y ∷ l) h m s = rw (m, lt-ltb (length (x ∷ y ∷ l)) (recordLength (x ∷ y ∷ l)) s)
 
-pub record-whole : (input : List ℕ) → 2 ≤ length input → marked (getD input 0 0) (getD input 1 0) ≡ true → recordLength input ≤ length input
-    → Whole (getD input 2 0) (getD input 3 0) (getD input 4 0) (getD input 5 0) ≡ recordOf input
+pub record-whole : (input : List ℕ) → 2 ≤ length input → knownMark (markOf input) ≡ true → recordLength input ≤ length input
+    → Whole (markOf input) (getD input 2 0) (getD input 3 0) (getD input 4 0) (getD input 5 0) ≡ recordOf input
 unfolding recordOf
 record-whole [] h m s = absurd (omega arith)
 record-whole (x ∷ []) h m s = absurd (omega arith)
@@ -95,20 +99,20 @@ record-whole (x ∷ y ∷ l) h m s = rw (m, le-ltb (length (x ∷ y ∷ l)) (rec
 pub data Kind (input : List ℕ) : Type 0 where
   none : input ≡ [] → recordOf input ≡ End → Kind input
   short : length input < recordLength input → recordOf input ≡ Damaged Short → Kind input
-  unmarked : 2 ≤ length input → marked (getD input 0 0) (getD input 1 0) ≡ false → recordOf input ≡ Damaged Mark → Kind input
-  whole : marked (getD input 0 0) (getD input 1 0) ≡ true → recordLength input ≤ length input
-      → recordOf input ≡ Whole (getD input 2 0) (getD input 3 0) (getD input 4 0) (getD input 5 0) → Kind input
+  unknown : 2 ≤ length input → knownMark (markOf input) ≡ false → recordOf input ≡ Damaged Mark → Kind input
+  whole : knownMark (markOf input) ≡ true → recordLength input ≤ length input
+      → recordOf input ≡ Whole (markOf input) (getD input 2 0) (getD input 3 0) (getD input 4 0) (getD input 5 0) → Kind input
 
 pub kind-of : (input : List ℕ) → Kind input
 kind-of [] = none refl (sym (record-none [] refl))
 kind-of (x ∷ []) = short (omega (arith, six-or-more (x ∷ []))) (sym (record-lone (x ∷ []) (λ h. omega arith) (omega arith)))
-kind-of (x ∷ y ∷ l) = go (decided (marked x y)) (decLt (length (x ∷ y ∷ l)) (recordLength (x ∷ y ∷ l)))
+kind-of (x ∷ y ∷ l) = go (decided (knownMark (boardMark x y))) (decLt (length (x ∷ y ∷ l)) (recordLength (x ∷ y ∷ l)))
   where
     two : 2 ≤ length (x ∷ y ∷ l)
     two = omega arith
 
-    go : Decided (marked x y) → Dec (length (x ∷ y ∷ l) < recordLength (x ∷ y ∷ l)) → Kind (x ∷ y ∷ l)
-    go (inr m) s = unmarked two m (sym (record-unmarked (x ∷ y ∷ l) two m))
+    go : Decided (knownMark (boardMark x y)) → Dec (length (x ∷ y ∷ l) < recordLength (x ∷ y ∷ l)) → Kind (x ∷ y ∷ l)
+    go (inr m) s = unknown two m (sym (record-unknown (x ∷ y ∷ l) two m))
     go (inl m) (yes s) = short s (sym (record-short (x ∷ y ∷ l) two m s))
     go (inl m) (no s) = whole m (omega arith) (sym (record-whole (x ∷ y ∷ l) two m (omega arith)))
 
@@ -120,32 +124,32 @@ module _ (input : List ℕ) where
       go : Kind input → input ≡ []
       go (none e _) = e
       go (short _ k) = let z : _≡_ {A = ℕ} 0 1 = cc in absurd (omega arith)
-      go (unmarked _ _ k) = let z : _≡_ {A = ℕ} 0 1 = cc in absurd (omega arith)
+      go (unknown _ _ k) = let z : _≡_ {A = ℕ} 0 1 = cc in absurd (omega arith)
       go (whole _ _ k) = let z : _≡_ {A = ℕ} 0 1 = cc in absurd (omega arith)
 
-  -- a damaged record is cut short or has no mark
+  -- a damaged record is cut short or has no known mark
   pub damaged-kinds : (refusal : Refusal) → recordOf input ≡ Damaged refusal → ((refusal ≡ Short) × (length input < recordLength input)) ⊎ (refusal ≡ Mark)
   damaged-kinds refusal is = go (kind-of input)
     where
       go : Kind input → ((refusal ≡ Short) × (length input < recordLength input)) ⊎ (refusal ≡ Mark)
       go (none _ k) = let z : _≡_ {A = ℕ} 0 1 = cc in absurd (omega arith)
       go (short h k) = inl (cc, h)
-      go (unmarked _ _ k) = inr (cc)
+      go (unknown _ _ k) = inr (cc)
       go (whole _ _ k) = let z : _≡_ {A = ℕ} 0 1 = cc in absurd (omega arith)
 
-  -- a whole one is marked, and stands inside the input
-  pub whole-marked : (rows columns row column : ℕ) → recordOf input ≡ Whole rows columns row column
-      → (marked (getD input 0 0) (getD input 1 0) ≡ true) × (recordLength input ≤ length input)
-  whole-marked rows columns row column is = go (kind-of input)
+  -- a whole one has a known mark, and stands inside the input
+  pub whole-known : (mark : BoardMark) (rows columns row column : ℕ) → recordOf input ≡ Whole mark rows columns row column
+      → (knownMark (markOf input) ≡ true) × (recordLength input ≤ length input)
+  whole-known mark rows columns row column is = go (kind-of input)
     where
-      go : Kind input → (marked (getD input 0 0) (getD input 1 0) ≡ true) × (recordLength input ≤ length input)
+      go : Kind input → (knownMark (markOf input) ≡ true) × (recordLength input ≤ length input)
       go (none _ k) = let z : _≡_ {A = ℕ} 0 1 = cc in absurd (omega arith)
       go (short _ k) = let z : _≡_ {A = ℕ} 0 1 = cc in absurd (omega arith)
-      go (unmarked _ _ k) = let z : _≡_ {A = ℕ} 0 1 = cc in absurd (omega arith)
+      go (unknown _ _ k) = let z : _≡_ {A = ℕ} 0 1 = cc in absurd (omega arith)
       go (whole m h k) = (m, h)
 
-  pub whole-inside : (rows columns row column : ℕ) → recordOf input ≡ Whole rows columns row column → recordLength input ≤ length input
-  whole-inside rows columns row column is = whole-marked rows columns row column is .1
+  pub whole-inside : (mark : BoardMark) (rows columns row column : ℕ) → recordOf input ≡ Whole mark rows columns row column → recordLength input ≤ length input
+  whole-inside mark rows columns row column is = whole-known mark rows columns row column is .1
 
 -- ---- a part of the input, and the same part with more behind it
 
@@ -163,23 +167,29 @@ module _ (input rest : List ℕ) where
   at : (k : ℕ) → k < length input → getD (input ++ rest) k 0 ≡ getD input k 0
   at k h = List·getD-append input rest 0 k h
 
+  same-mark : 2 ≤ length input → markOf (input ++ rest) ≡ markOf input
+  same-mark h = rw (at 0 (omega (arith, h)), at 1 (omega (arith, h)))
+
   -- a whole record
-  pub whole-beside : (rows columns row column : ℕ) → recordOf input ≡ Whole rows columns row column → Beside input (input ++ rest)
-  whole-beside rows columns row column is = record {
+  pub whole-beside : (mark : BoardMark) (rows columns row column : ℕ) → recordOf input ≡ Whole mark rows columns row column → Beside input (input ++ rest)
+  whole-beside mark rows columns row column is = record {
     same-length = same-length;
     same-record =
-        sym (record-whole (input ++ rest) (omega (arith, six, longer)) (rw (at 0 (omega (arith, six)), at 1 (omega (arith, six))) (known .0)) (omega (arith, same-length, known .1, longer)))
-        ∙ rw (at 2 (omega (arith, six)), at 3 (omega (arith, six)), at 4 (omega (arith, six)), at 5 (omega (arith, six))) (record-whole input (omega (arith, six)) (known .0) (known .1));
+        sym (record-whole (input ++ rest) (omega (arith, six, longer)) (rw same (known .0)) (omega (arith, same-length, known .1, longer)))
+        ∙ rw (same, at 2 (omega (arith, six)), at 3 (omega (arith, six)), at 4 (omega (arith, six)), at 5 (omega (arith, six))) (record-whole input (omega (arith, six)) (known .0) (known .1));
     same-cells =
         rw (same-length, drop-append-le 6 input rest six)
         (take-append-le (recordLength input - 6) (drop 6 input) rest (omega (arith, length-drop 6 input, known .1)));
   }
     where
-      known : (marked (getD input 0 0) (getD input 1 0) ≡ true) × (recordLength input ≤ length input)
-      known = whole-marked input rows columns row column is
+      known : (knownMark (markOf input) ≡ true) × (recordLength input ≤ length input)
+      known = whole-known input mark rows columns row column is
 
       six : 6 ≤ length input
       six = omega (arith, six-or-more input, known .1)
+
+      same : markOf (input ++ rest) ≡ markOf input
+      same = same-mark (omega (arith, six))
 
       same-length : recordLength (input ++ rest) ≡ recordLength input
       same-length =
@@ -193,5 +203,5 @@ module _ (input rest : List ℕ) where
       go : Kind input → recordOf (input ++ rest) ≡ Damaged Mark
       go (none _ k) = let z : _≡_ {A = ℕ} 0 1 = cc in absurd (omega arith)
       go (short _ k) = let z : _≡_ {A = ℕ} 0 1 = cc in absurd (omega arith)
-      go (unmarked h m k) = sym (record-unmarked (input ++ rest) (omega (arith, h, longer)) (rw (at 0 (omega (arith, h)), at 1 (omega (arith, h))) m))
+      go (unknown h m k) = sym (record-unknown (input ++ rest) (omega (arith, h, longer)) (rw (same-mark h) m))
       go (whole _ _ k) = let z : _≡_ {A = ℕ} 0 1 = cc in absurd (omega arith)

@@ -1,3 +1,2 @@
--- Board records, and the lines that answer them.
+-- The format of board records.
 pub mod Records
-pub mod Answers

@@ -1,18 +1,17 @@
-// Board records and the lines that answer them. A record is the mark 4D 42, rows, columns, start row, start column, a byte each, and the cells row by row. What
-// a part of the input that begins at a record is, and which line answers it, is decided here; a program only reads and prints.
+// The format of board records. A record is a mark of two bytes, then rows, columns, start row, start column, a byte each, and the cells row by row. What a part of the
+// input is that begins where a record should, is decided here; by which line it is answered, in `record_lines`.
 use refusals::Refusal;
-use refusals::refusal_number;
-use text::put_byte;
-use text::put_bytes;
-use text::put_number;
-use verdict::Verdict;
-use verdict::is_solvable;
 ghost use mathlib.Core.Path.{_≡_};
 ghost use Prim.Native.Nat.{_≤_};
-ghost use lib.ListN.{length, replicate};
-ghost use Rattle.text.specs.Text.{Written};
-ghost use Rattle.records.specs.Records.{recordLength, marked, recordOf, pictureSize};
-ghost use Rattle.records.specs.Answers.{verdictWord, verdictText, lineText, boardVerdict};
+ghost use Rattle.records.specs.Records.{recordLength, boardMark, knownMark, recordOf};
+
+// What the first two bytes of a record mark: a case for each mark that is known, and one for all others.
+pub enum BoardMark {
+    // 4D 42: a plain board.
+    Plain,
+    // No mark that is known.
+    Unknown,
+}
 
 // What a part of the input is that begins where a record should.
 pub enum Record {
@@ -20,8 +19,8 @@ pub enum Record {
     End,
     // No known mark, or too short: the run ends after its line.
     Damaged(Refusal),
-    // A whole record: rows, columns, start row, start column.
-    Whole(usize, usize, usize, usize),
+    // A whole record: its mark, rows, columns, start row, start column.
+    Whole(BoardMark, usize, usize, usize, usize),
 }
 
 // A byte, as wide as a number.
@@ -42,11 +41,27 @@ pub fn record_length(head: &[u8]) -> usize
     6 + wide_byte(head[2]) * wide_byte(head[3])
 }
 
-// Are the two bytes a known mark?
-pub fn is_mark(first: u8, second: u8) -> bool
-    ensures { λ r. ⌜ r ≡ marked first second ⌝ }
+// The mark that two bytes are.
+pub fn board_mark(first: u8, second: u8) -> BoardMark
+    ensures { λ r. ⌜ r ≡ boardMark first second ⌝ }
 {
-    if first == 77 { second == 66 } else { false }
+    if first != 77 {
+        return BoardMark::Unknown;
+    }
+    if second == 66 {
+        return BoardMark::Plain;
+    }
+    BoardMark::Unknown
+}
+
+// Is it a known mark?
+fn is_known(mark: BoardMark) -> bool
+    ensures { λ r. ⌜ r ≡ knownMark mark ⌝ }
+{
+    match mark {
+        BoardMark::Plain => true,
+        BoardMark::Unknown => false,
+    }
 }
 
 // Reads a record. The mark comes first: two bytes that are no mark are refusal 10, whatever follows.
@@ -59,95 +74,18 @@ pub fn read_record(input: &[u8]) -> Record
     if input.len() < 2 {
         return Record::Damaged(Refusal::Short);
     }
-    if !is_mark(input[0], input[1]) {
+    let mark = board_mark(input[0], input[1]);
+    if !is_known(mark) {
         return Record::Damaged(Refusal::Mark);
     }
     if input.len() < record_length(input) {
         return Record::Damaged(Refusal::Short);
     }
     Record::Whole(
+        mark,
         wide_byte(input[2]),
         wide_byte(input[3]),
         wide_byte(input[4]),
         wide_byte(input[5]),
     )
-}
-
-// `yes ` or `no `, from a place on.
-fn put_word(out: &mut [u8], at: usize, yes: bool) -> usize
-    requires { ⌜ at ≤ length (now out) ⌝ }
-    ensures { λ r. ⌜ Written (now (out .entry)) at (verdictWord yes) (now (out .exit)) r ⌝ }
-{
-    if yes {
-        return put_bytes(out, at, b"yes ");
-    }
-    put_bytes(out, at, b"no ")
-}
-
-// `yes 2 0 0` or `refused 1`, from a place on.
-pub fn put_verdict(out: &mut [u8], at: usize, verdict: Verdict) -> usize
-    requires { ⌜ at ≤ length (now out) ⌝ }
-    ensures { λ r. ⌜ Written (now (out .entry)) at (verdictText verdict) (now (out .exit)) r ⌝ }
-{
-    match verdict {
-        Verdict::Refused(refusal) => {
-            let word = put_bytes(out, at, b"refused ");
-            put_number(out, word, refusal_number(refusal) as usize)
-        }
-        Verdict::Judged(yes, opened, grade, rounds) => {
-            let mut k = put_word(out, at, yes);
-            k = put_number(out, k, opened);
-            k = put_byte(out, k, 32);
-            k = put_number(out, k, grade);
-            k = put_byte(out, k, 32);
-            put_number(out, k, rounds)
-        }
-    }
-}
-
-// The line of a record, from a place on: its number, the verdict, the end of the line.
-pub fn put_line(out: &mut [u8], at: usize, number: usize, verdict: Verdict) -> usize
-    requires { ⌜ at ≤ length (now out) ⌝ }
-    ensures { λ r. ⌜ Written (now (out .entry)) at (lineText number verdict) (now (out .exit)) r ⌝ }
-{
-    let after = put_number(out, at, number);
-    let gap = put_byte(out, after, 32);
-    let end = put_verdict(out, gap, verdict);
-    put_byte(out, end, 10)
-}
-
-// How many bytes of picture a board is lent: one for each cell, and none for a board that test 1 refuses.
-fn picture_size(rows: usize, columns: usize) -> usize
-    ensures { λ r. ⌜ r ≡ pictureSize rows columns ⌝ }
-    ensures { λ r. ⌜ r ≤ 1024 ⌝ }
-{
-    if 32 < rows {
-        return 0;
-    }
-    if 32 < columns {
-        return 0;
-    }
-    rows * columns
-}
-
-// A picture with nothing in it.
-fn zeros() -> [u8; 1024]
-    ensures { λ r. ⌜ r ≡ replicate 1024 0 ⌝ }
-{
-    [0; 1024]
-}
-
-// The verdict of a record's board. The picture is lent for the time of the call.
-pub fn board_verdict(
-    rows: usize,
-    columns: usize,
-    row: usize,
-    column: usize,
-    cells: &[u8],
-) -> Verdict
-    ensures { λ r. ⌜ r ≡ boardVerdict rows columns row column (now (cells .entry)) ⌝ }
-{
-    let size = picture_size(rows, columns);
-    let mut picture = zeros();
-    is_solvable(rows, columns, row, column, cells, &mut picture[..size])
 }

@@ -13,10 +13,11 @@ use Rattle.refusals.specs.declared.Refusal.the-variants.{Mark, Short}
 use Rattle.refusals.specs.Refusals.{refusalNumber}
 use Rattle.verdict.specs.declared.Verdict.{Verdict}
 use Rattle.verdict.specs.declared.Verdict.the-variants.{Refused}
+use Rattle.records.specs.declared.BoardMark.{BoardMark}
 use Rattle.records.specs.declared.Record.{Record}
 use Rattle.records.specs.declared.Record.the-variants.{End, Damaged, Whole}
 use Rattle.records.specs.Records.{recordLength, recordOf, cellsIn}
-use Rattle.records.specs.Answers.{boardVerdict}
+use Rattle.record_lines.specs.Answers.{boardVerdict}
 use Rattle.records.proofs.RecordKinds.{length-most, end-nothing, damaged-kinds}
 use Rattle.run.specs.declared.Next.{Next}
 use Rattle.run.specs.declared.Next.the-variants.{Waits, Ended, Damage, Board}
@@ -36,10 +37,10 @@ module _ (input : List ℕ) (ended : Bool) where
   unfolding nextOf
   next-damage refusal is e = rw is e
 
-  pub next-whole : {v : Verdict} (rows columns row column end : ℕ) → recordOf input ≡ Whole rows columns row column → end ≡ recordLength input
-      → v ≡ boardVerdict rows columns row column (take (end - 6) (drop 6 input)) → Board v end ≡ nextOf ended input
+  pub next-whole : {v : Verdict} (mark : BoardMark) (rows columns row column end : ℕ) → recordOf input ≡ Whole mark rows columns row column → end ≡ recordLength input
+      → v ≡ boardVerdict mark rows columns row column (take (end - 6) (drop 6 input)) → Board v end ≡ nextOf ended input
   unfolding nextOf
-  next-whole rows columns row column end is e judged = rw (is, judged, e)
+  next-whole mark rows columns row column end is e judged = rw (is, judged, e)
 
 -- ---- and read back
 
@@ -58,7 +59,7 @@ module _ (input : List ℕ) where
           kinds : ((refusal ≡ Short) × (length input < recordLength input)) ⊎ (refusal ≡ Mark) → (false ≡ false) × (length input < 65031)
           kinds (inl (s, h)) = (refl, omega (arith, h, length-most input bytes))
           kinds (inr m) = let g : Damage Mark ≡ Waits = rw m at f in let z : _≡_ {A = ℕ} 0 1 = cc in absurd (omega arith)
-      go t (Whole rows columns row column) is f = let z : _≡_ {A = ℕ} 0 1 = cc in absurd (omega arith)
+      go t (Whole mark rows columns row column) is f = let z : _≡_ {A = ℕ} 0 1 = cc in absurd (omega arith)
 
   -- the input has ended
   pub ended-nothing : (ended : Bool) → nextOf ended input ≡ Ended → (ended ≡ true) × (recordOf input ≡ End)
@@ -74,7 +75,7 @@ module _ (input : List ℕ) where
           split : (t : Bool) → cond t Waits (Damage refusal) ≡ Ended → (false ≡ true) × (recordOf input ≡ End)
           split true g = let z : _≡_ {A = ℕ} 0 1 = cc in absurd (omega arith)
           split false g = let z : _≡_ {A = ℕ} 0 1 = cc in absurd (omega arith)
-      go t (Whole rows columns row column) is f = let z : _≡_ {A = ℕ} 0 1 = cc in absurd (omega arith)
+      go t (Whole mark rows columns row column) is f = let z : _≡_ {A = ℕ} 0 1 = cc in absurd (omega arith)
 
   -- a damaged record is the last, whatever follows
   pub damage-last : (ended : Bool) (refusal : Refusal) → nextOf ended input ≡ Damage refusal
@@ -101,16 +102,17 @@ module _ (input : List ℕ) where
               let e : Mark ≡ refusal = cc in
               let known : recordOf input ≡ Damaged Mark = rw m at is in
               (rw (sym e) known, λ rest _. rw (sym e) (verdicts-mark input rest known))
-      go t (Whole rows columns row column) is f = let z : _≡_ {A = ℕ} 0 1 = cc in absurd (omega arith)
+      go t (Whole mark rows columns row column) is f = let z : _≡_ {A = ℕ} 0 1 = cc in absurd (omega arith)
 
   -- a board is that of a whole record
   pub record JudgedBoard (v : Verdict) (size : ℕ) : Type 0 where
+    pub mark : BoardMark
     pub rows : ℕ
     pub columns : ℕ
     pub row : ℕ
     pub column : ℕ
-    pub is : recordOf input ≡ Whole rows columns row column
-    pub judged : v ≡ boardVerdict rows columns row column (cellsIn input)
+    pub is : recordOf input ≡ Whole mark rows columns row column
+    pub judged : v ≡ boardVerdict mark rows columns row column (cellsIn input)
     pub whole : size ≡ recordLength input
 
   pub board-judged : (ended : Bool) (v : Verdict) (size : ℕ) → nextOf ended input ≡ Board v size → JudgedBoard v size
@@ -126,5 +128,5 @@ module _ (input : List ℕ) where
           split : (t : Bool) → cond t Waits (Damage refusal) ≡ Board v size → JudgedBoard v size
           split true g = let z : _≡_ {A = ℕ} 0 1 = cc in absurd (omega arith)
           split false g = let z : _≡_ {A = ℕ} 0 1 = cc in absurd (omega arith)
-      go t (Whole rows columns row column) is f =
-          record { rows = rows; columns = columns; row = row; column = column; is = is; judged = cc; whole = cc }
+      go t (Whole mark rows columns row column) is f =
+          record { mark = mark; rows = rows; columns = columns; row = row; column = column; is = is; judged = cc; whole = cc }

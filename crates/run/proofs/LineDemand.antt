@@ -1,4 +1,4 @@
--- Demand 3 of a printed line: the line of an accepted board with a safe start tells a verdict and an opened count of which demand 3 holds, with the picture that the verdict filled.
+-- Demand 3 of a printed line: the line of an accepted plain board with a safe start tells a verdict and an opened count of which demand 3 holds, with the picture that the verdict filled.
 -- Rests on `answer-demand-3` of the crate verdict. Assumes nothing.
 use mathlib.Core.Path.{_≡_, refl}
 use mathlib.Core.Logic.{_≢_}
@@ -9,14 +9,14 @@ use Rattle.grid.specs.Cells.{cellOf}
 use Rattle.grid.specs.Window.{neighbours}
 use Rattle.refusals.specs.declared.Tested.the-variants.{Accepted}
 use Rattle.refusals.specs.Tests.{boardTested, startCell}
+use Rattle.records.specs.declared.BoardMark.the-variants.{Plain}
 use Rattle.verdict.specs.Verdict.{isSolvable, MeetsDemand3}
 use Rattle.verdict.proofs.DemandThree.{answer-demand-3}
-use Rattle.records.specs.Records.{pictureSize}
-use Rattle.records.specs.Answers.{boardVerdict}
+use Rattle.record_lines.specs.Answers.{pictureSize, boardVerdict}
 
 module _ (rows columns row column : ℕ) (b : List ℕ) where
   pub line-demand-3 : boardTested rows columns row column b (pictureSize rows columns ∷ []) ≡ Accepted → cellOf b (startCell columns row column b) ≢ 255
-      → (shown : List ℕ) × MeetsDemand3 (neighbours rows columns) b (startCell columns row column b) (boardVerdict rows columns row column b) shown
+      → (shown : List ℕ) × MeetsDemand3 (neighbours rows columns) b (startCell columns row column b) (boardVerdict Plain rows columns row column b) shown
   unfolding boardVerdict
   line-demand-3 tests safe = (
     isSolvable rows columns row column b (replicate (pictureSize rows columns) 0) .shown,

@@ -10,14 +10,15 @@ use Rattle.refusals.specs.declared.Refusal.{Refusal}
 use Rattle.refusals.specs.declared.Refusal.the-variants.{Mark, Short}
 use Rattle.verdict.specs.declared.Verdict.{Verdict}
 use Rattle.verdict.specs.declared.Verdict.the-variants.{Refused}
+use Rattle.records.specs.declared.BoardMark.{BoardMark}
 use Rattle.records.specs.declared.Record.{Record}
 use Rattle.records.specs.declared.Record.the-variants.{End, Damaged, Whole}
 use Rattle.records.specs.Records.{recordLength, recordOf, cellsIn}
-use Rattle.records.specs.Answers.{boardVerdict, lineText}
+use Rattle.record_lines.specs.Answers.{boardVerdict, lineText}
 use Rattle.records.proofs.RecordKinds.{six-or-more, end-nothing, whole-inside}
 use Rattle.text.specs.Text.{Written}
 use Rattle.text.proofs.Writing.{written-within}
-use Rattle.records.proofs.LineRoom.{line-few, written-whole}
+use Rattle.record_lines.proofs.LineRoom.{line-few, written-whole}
 use Rattle.run.specs.declared.RunState.{RunState}
 use Rattle.run.specs.declared.RunState.the-variants.{GoesOn, Complete, Stopped}
 use Rattle.run.specs.declared.Tally.{Tally}
@@ -101,16 +102,16 @@ module _ (input : List ℕ) (ended : Bool) (number : ℕ) (r : Part) (out : List
   })
 
   -- a whole record
-  pub next-answers : 0 < number → (rows columns row column : ℕ) → recordOf input ≡ Whole rows columns row column
-      → (v : Verdict) → v ≡ boardVerdict rows columns row column (cellsIn input)
+  pub next-answers : 0 < number → (mark : BoardMark) (rows columns row column : ℕ) → recordOf input ≡ Whole mark rows columns row column
+      → (v : Verdict) → v ≡ boardVerdict mark rows columns row column (cellsIn input)
       → AtFront (lineText number v) (linePart number v (recordLength input) GoesOn) r out → Answers input ended number r out
-  next-answers h rows columns row column is v judged a = rw (a .is) (record {
-    read-within = whole-inside input rows columns row column is;
+  next-answers h mark rows columns row column is v judged a = rw (a .is) (record {
+    read-within = whole-inside input mark rows columns row column is;
     written-within = rw (a .is) at (a .within);
     text = λ rest f.
-        rw (verdicts-whole input rest rows columns row column is, sym judged)
+        rw (verdicts-whole input rest mark rows columns row column is, sym judged)
         (text-line number v _ h ∙ ap (_++ textFrom (number + 1) (verdicts (drop (recordLength input) input ++ rest))) (sym (rw (a .is) at (a .stands))));
-    counted = λ rest f. rw (verdicts-whole input rest rows columns row column is, sym judged) refl;
+    counted = λ rest f. rw (verdicts-whole input rest mark rows columns row column is, sym judged) refl;
     complete = λ is. let z : _≡_ {A = ℕ} 0 1 = cc in absurd (omega arith);
     stopped = λ refusal is. let z : _≡_ {A = ℕ} 0 1 = cc in absurd (omega arith);
   })
@@ -185,7 +186,7 @@ module _ (input : List ℕ) (ended : Bool) (number : ℕ) (r : Part) (before aft
   next-done h v size next a =
       let known = board-judged input ended v size next in
       let six : 6 ≤ size = omega (arith, known .whole, six-or-more input) in (
-        next-answers input ended number r after h (known .rows) (known .columns) (known .row) (known .column) (known .is) v (known .judged)
+        next-answers input ended number r after h (known .mark) (known .rows) (known .columns) (known .row) (known .column) (known .is) v (known .judged)
             (rw (known .whole) at a),
         rw (a .is) (record {
           few = few-line v size GoesOn;

@@ -11,10 +11,11 @@ use Rattle.refusals.specs.declared.Refusal.{Refusal}
 use Rattle.refusals.specs.declared.Refusal.the-variants.{Mark}
 use Rattle.verdict.specs.declared.Verdict.{Verdict}
 use Rattle.verdict.specs.declared.Verdict.the-variants.{Refused}
+use Rattle.records.specs.declared.BoardMark.{BoardMark}
 use Rattle.records.specs.declared.Record.{Record}
 use Rattle.records.specs.declared.Record.the-variants.{End, Damaged, Whole}
 use Rattle.records.specs.Records.{recordLength, recordOf, cellsIn}
-use Rattle.records.specs.Answers.{boardVerdict}
+use Rattle.record_lines.specs.Answers.{boardVerdict}
 use Rattle.records.proofs.RecordKinds.{six-or-more, whole-inside, whole-beside, mark-beside}
 use Rattle.run.specs.Run.{verdictsAfter, verdictsOf, verdicts}
 
@@ -52,16 +53,16 @@ verdicts-step (x ∷ l) =
 
 module _ (input rest : List ℕ) where
   -- a whole record: its own verdict, and the verdicts of what follows it
-  pub verdicts-whole : (rows columns row column : ℕ) → recordOf input ≡ Whole rows columns row column
-      → verdicts (input ++ rest) ≡ boardVerdict rows columns row column (cellsIn input) ∷ verdicts (drop (recordLength input) input ++ rest)
-  verdicts-whole rows columns row column is =
-      let beside = whole-beside input rest rows columns row column is in
+  pub verdicts-whole : (mark : BoardMark) (rows columns row column : ℕ) → recordOf input ≡ Whole mark rows columns row column
+      → verdicts (input ++ rest) ≡ boardVerdict mark rows columns row column (cellsIn input) ∷ verdicts (drop (recordLength input) input ++ rest)
+  verdicts-whole mark rows columns row column is =
+      let beside = whole-beside input rest mark rows columns row column is in
       verdicts-step (input ++ rest)
       ∙ rw (
         beside .same-record ∙ is,
         beside .same-cells,
         beside .same-length,
-        drop-append-le (recordLength input) input rest (whole-inside input rows columns row column is),
+        drop-append-le (recordLength input) input rest (whole-inside input mark rows columns row column is),
       )
 
   -- an unknown mark is the last

@@ -12,7 +12,7 @@ use Rattle.verdict.specs.Verdict.{verdictNumber, verdictYes}
 use Rattle.records.specs.declared.Record.{Record}
 use Rattle.records.specs.declared.Record.the-variants.{End, Damaged, Whole}
 use Rattle.records.specs.Records.{recordLength, recordOf, cellsIn}
-use Rattle.records.specs.Answers.{boardVerdict, lineText}
+use Rattle.record_lines.specs.Answers.{boardVerdict, lineText}
 use Rattle.run.specs.declared.Tally.{Tally}
 
 -- ---- the verdicts of an input
@@ -21,7 +21,7 @@ use Rattle.run.specs.declared.Tally.{Tally}
 abbrev pub verdictsAfter : Record → List ℕ → List Verdict → List Verdict
 verdictsAfter End input others = []
 verdictsAfter (Damaged refusal) input others = Refused refusal ∷ []
-verdictsAfter (Whole rows columns row column) input others = boardVerdict rows columns row column (cellsIn input) ∷ others
+verdictsAfter (Whole mark rows columns row column) input others = boardVerdict mark rows columns row column (cellsIn input) ∷ others
 
 -- of at most k records; the next one begins as many bytes on as a record has in all, refused or not
 abbrev pub verdictsOf : ℕ → List ℕ → List Verdict

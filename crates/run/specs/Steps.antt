@@ -1,4 +1,4 @@
--- Cited by no public contract: what the functions that answer one record are told and tell. Assumes nothing.
+-- Cited by no public contract. What the functions that answer one record are told and tell. Assumes nothing.
 use mathlib.Core.Path.{_≡_}
 use mathlib.Core.Bool.{Bool, true, false, cond}
 use mathlib.Core.List.{List}
@@ -11,7 +11,7 @@ use Rattle.verdict.specs.declared.Verdict.{Verdict}
 use Rattle.records.specs.declared.Record.{Record}
 use Rattle.records.specs.declared.Record.the-variants.{End, Damaged, Whole}
 use Rattle.records.specs.Records.{recordLength, recordOf, cellsIn}
-use Rattle.records.specs.Answers.{boardVerdict, lineText}
+use Rattle.record_lines.specs.Answers.{boardVerdict, lineText}
 use Rattle.run.specs.declared.RunState.{RunState}
 use Rattle.run.specs.declared.RunState.the-variants.{GoesOn}
 use Rattle.run.specs.declared.Tally.{Tally}
@@ -33,7 +33,7 @@ nextAfterDamage refusal ended = cond ended (Damage refusal) (cond (eqb (refusalN
 abbrev pub nextAfter : Record → Bool → List ℕ → Next
 nextAfter End ended input = nextAfterEnd ended
 nextAfter (Damaged refusal) ended input = nextAfterDamage refusal ended
-nextAfter (Whole rows columns row column) ended input = Board (boardVerdict rows columns row column (cellsIn input)) (recordLength input)
+nextAfter (Whole mark rows columns row column) ended input = Board (boardVerdict mark rows columns row column (cellsIn input)) (recordLength input)
 
 unfoldable pub nextOf : Bool → List ℕ → Next
 nextOf ended input = nextAfter (recordOf input) ended input

@@ -1,9 +1,9 @@
 // The run of the program, on bytes: the records of a part of the input are answered into a lent buffer, line after line, wherever the input is cut. The header, the numbers,
 // where the next record begins and when the run ends are decided here; a program only reads, calls `answer_part`, writes, and keeps the bytes that were not read.
 // specs/Run.antt says what the whole input prints, specs/Parts.antt what a part of it does.
+use record_lines::board_verdict;
+use record_lines::put_line;
 use records::Record;
-use records::board_verdict;
-use records::put_line;
 use records::read_record;
 use records::record_length;
 use refusals::Refusal;
@@ -13,7 +13,7 @@ use verdict::Verdict;
 ghost use mathlib.Core.Path.{_≡_};
 ghost use Prim.Native.Nat.{_+_, _-_, _≤_, _<_};
 ghost use lib.ListN.{length, take, drop};
-ghost use Rattle.records.specs.Answers.{lineText};
+ghost use Rattle.record_lines.specs.Answers.{lineText};
 ghost use Rattle.run.specs.Run.{header, tallyOf};
 ghost use Rattle.run.specs.Parts.{goesOn, Answers, Progress, newRun, cappedSum, runAfter};
 ghost use Rattle.run.specs.Steps.{nextAfterEnd, nextAfterDamage, nextOf, nothingYet, headerPart, linePart, partSum, AtFront, Few, Step, another};
@@ -89,9 +89,9 @@ fn next_verdict(input: &[u8], ended: bool) -> Next
     match read_record(input) {
         Record::End => next_after_end(ended),
         Record::Damaged(refusal) => next_after_damage(refusal, ended),
-        Record::Whole(rows, columns, row, column) => {
+        Record::Whole(mark, rows, columns, row, column) => {
             let end = record_length(input);
-            let verdict = board_verdict(rows, columns, row, column, &input[6..end]);
+            let verdict = board_verdict(mark, rows, columns, row, column, &input[6..end]);
             Next::Board(verdict, end)
         }
     }

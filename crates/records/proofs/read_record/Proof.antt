@@ -1,26 +1,30 @@
 -- `read_record` meets its contract: its tests go the ways of the definition, one law each. Assumes nothing.
-use mathlib.Core.Path.{_≡_, sym, _∙_}
+use mathlib.Core.Path.{_≡_, sym, ap, _∙_}
 use mathlib.Core.Bool.{true}
 use mathlib.Core.List.{List}
 use Prim.Native.Nat.{ℕ, _≤_}
 use native.Mathlib.Omega.{arith}
-use lib.ListN.{length, getD}
+use lib.ListN.{length}
 use borrow.Author.Tests.{not-true, not-false}
-use Rattle.records.specs.Records.{marked}
-use Rattle.records.proofs.RecordKinds.{length-six, record-none, record-lone, record-unmarked, record-short, record-whole}
+use Rattle.records.specs.Records.{knownMark}
+use Rattle.records.proofs.RecordKinds.{length-six, markOf, record-none, record-lone, record-unknown, record-short, record-whole}
 use borrow.Author.Needs.{needs}
 use Rattle.records.proofs.read_record.Statement.{statement}
 use Rattle.records.proofs.read_record.Tie as tie
 
-abbrev input : tie.Else3 → List ℕ
+abbrev input : tie.After-is-known → List ℕ
 input c = c .before .before .before .before .before .before .before .args .input .now
 
+-- what the test of the mark tells
+told : (c : tie.After-is-known) → knownMark (markOf (input c)) ≡ c .is-known .result
+told c = sym (c .is-known .ensures ∙ ap knownMark (c .before .board-mark .ensures))
+
 -- past the test of the mark it is known
-known : (c : tie.Else3) → marked (getD (input c) 0 0) (getD (input c) 1 0) ≡ true
-known c = sym (c .before .is-mark .ensures) ∙ not-false (c .before .is-mark .result) (c .if3 .left)
+known : (c : tie.Else3) → knownMark (markOf (input (c .before))) ≡ true
+known c = told (c .before) ∙ not-false (c .before .is-known .result) (c .if3 .left)
 
 -- past the test of the length the head is there
-head : (c : tie.Else4) → 6 ≤ length (input (c .before .before))
+head : (c : tie.Else4) → 6 ≤ length (input (c .before .before .before))
 head c = omega (arith, length-six _ (c .before .record-length .ensures .0), c .if4 .left)
 
 returns : tie.Need-returns
@@ -29,17 +33,20 @@ returns c = record-none _ (c .if1 .taken)
 returns-2 : tie.Need-returns-2
 returns-2 c = record-lone _ (c .before .if1 .left) (omega arith)
 
-shared-slice-read-is-mark : tie.Need-shared-slice-read-is-mark
-shared-slice-read-is-mark c = search needs
+shared-slice-read-board-mark : tie.Need-shared-slice-read-board-mark
+shared-slice-read-board-mark c = search needs
 
-shared-slice-read-is-mark-2 : tie.Need-shared-slice-read-is-mark-2
-shared-slice-read-is-mark-2 c = search needs
+shared-slice-read-board-mark-2 : tie.Need-shared-slice-read-board-mark-2
+shared-slice-read-board-mark-2 c = search needs
 
-is-mark-requires : tie.Need-is-mark-requires
-is-mark-requires c κs = search needs
+board-mark-requires : tie.Need-board-mark-requires
+board-mark-requires c κs = search needs
+
+is-known-requires : tie.Need-is-known-requires
+is-known-requires c κs = search needs
 
 returns-3 : tie.Need-returns-3
-returns-3 c = record-unmarked _ (omega arith) (sym (c .before .is-mark .ensures) ∙ not-true (c .before .is-mark .result) (c .if3 .taken))
+returns-3 c = record-unknown _ (omega arith) (told (c .before) ∙ not-true (c .before .is-known .result) (c .if3 .taken))
 
 record-length-requires : tie.Need-record-length-requires
 record-length-requires c κs = search needs
@@ -75,9 +82,9 @@ returns-5 : tie.Need-returns-5
 returns-5 c =
     let third = c .before .before .before .before .before .before in
     let long = third .before .before in
-    let marked = long .before .before in
-    let told = record-whole (input marked) (omega arith) (known marked) (omega (arith, long .if4 .left, long .before .record-length .ensures .0)) in
-    rw (third .wide-byte .ensures, c .before .before .before .before .wide-byte2 .ensures, c .before .before .wide-byte3 .ensures, c .wide-byte4 .ensures) told
+    let past-mark = long .before .before in
+    let whole = record-whole (input (past-mark .before)) (omega arith) (known past-mark) (omega (arith, long .if4 .left, long .before .record-length .ensures .0)) in
+    rw (past-mark .before .before .board-mark .ensures, third .wide-byte .ensures, c .before .before .before .before .wide-byte2 .ensures, c .before .before .wide-byte3 .ensures, c .wide-byte4 .ensures) whole
 
 pub read-record-spec : {M : Type 1} → statement M
 read-record-spec =
@@ -85,9 +92,10 @@ read-record-spec =
     (tie.spec
     returns
     returns-2
-    shared-slice-read-is-mark
-    shared-slice-read-is-mark-2
-    is-mark-requires
+    shared-slice-read-board-mark
+    shared-slice-read-board-mark-2
+    board-mark-requires
+    is-known-requires
     returns-3
     record-length-requires
     returns-4

@@ -18,14 +18,14 @@ input c = c .before .before .before .before .before .before .args .input .now
 
 -- the record is whole, and stands inside the input
 whole : (c : tie.After-record-length)
-    → recordOf (input c) ≡ Whole (c .before .before .rows .given .0 .0) (c .before .before .rows .given .0 .1 .0) (c .before .before .rows .given .0 .1 .1 .0) (c .before .before .rows .given .0 .1 .1 .1 .0)
-whole c = sym (c .before .before .before .before .read-record .ensures) ∙ c .before .before .rows .given .1
+    → let fields = c .before .before .mark .given .0 in recordOf (input c) ≡ Whole (fields .0) (fields .1 .0) (fields .1 .1 .0) (fields .1 .1 .1 .0) (fields .1 .1 .1 .1 .0)
+whole c = sym (c .before .before .before .before .read-record .ensures) ∙ c .before .before .mark .given .1
 
 head : (c : tie.After-record-length) → 6 ≤ c .record-length .result
 head c = length-six _ (c .record-length .ensures .0)
 
 inside : (c : tie.After-record-length) → c .record-length .result ≤ length (input c)
-inside c = omega (arith, c .record-length .ensures .0, whole-inside _ _ _ _ _ (whole c))
+inside c = omega (arith, c .record-length .ensures .0, whole-inside _ _ _ _ _ _ (whole c))
 
 read-record-requires : tie.Need-read-record-requires
 read-record-requires c κs = search needs
@@ -42,8 +42,8 @@ enum-known-refusal c = search needs
 next-after-damage-requires : tie.Need-next-after-damage-requires
 next-after-damage-requires c κs = search needs
 
-enum-known-rows : tie.Need-enum-known-rows
-enum-known-rows c = search needs
+enum-known-mark : tie.Need-enum-known-mark
+enum-known-mark c = search needs
 
 record-length-requires : tie.Need-record-length-requires
 record-length-requires c κs = search needs
@@ -73,7 +73,7 @@ returns-2 c =
 returns-3 : tie.Need-returns-3
 returns-3 c =
     let length = c .before .before in
-    next-whole _ _ _ _ _ _ _ (whole length) (length .record-length .ensures .0) (c .board-verdict .ensures)
+    next-whole _ _ _ _ _ _ _ _ (whole length) (length .record-length .ensures .0) (c .board-verdict .ensures)
 
 pub next-verdict-spec : {M : Type 1} → statement M
 next-verdict-spec =
@@ -84,7 +84,7 @@ next-verdict-spec =
     next-after-end-requires
     enum-known-refusal
     next-after-damage-requires
-    enum-known-rows
+    enum-known-mark
     record-length-requires
     sub-board-verdict
     part-board-verdict-start

@@ -2,9 +2,9 @@
 use native.Mathlib.Nat.{mul-le-mul}
 use native.Mathlib.Omega.{arith}
 use borrow.Author.Tests.{le-leb, lt-leb}
-use Rattle.records.specs.Records.{pictureSize}
-use Rattle.records.proofs.picture_size.Statement.{statement}
-use Rattle.records.proofs.picture_size.Tie as tie
+use Rattle.record_lines.specs.Answers.{pictureSize}
+use Rattle.record_lines.proofs.picture_size.Statement.{statement}
+use Rattle.record_lines.proofs.picture_size.Tie as tie
 
 returns : tie.Need-returns
 unfolding pictureSize

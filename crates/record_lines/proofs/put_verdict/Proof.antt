@@ -1,8 +1,8 @@
 -- `put_verdict` meets its contract: the writes of each of its two ways are the verdict's text, one behind the other. Assumes nothing.
-use Rattle.records.proofs.LineWritten.{refused-written, judged-written}
+use Rattle.record_lines.proofs.LineWritten.{refused-written, judged-written}
 use borrow.Author.Needs.{needs}
-use Rattle.records.proofs.put_verdict.Statement.{statement}
-use Rattle.records.proofs.put_verdict.Tie as tie
+use Rattle.record_lines.proofs.put_verdict.Statement.{statement}
+use Rattle.record_lines.proofs.put_verdict.Tie as tie
 
 enum-known-verdict : tie.Need-enum-known-verdict
 enum-known-verdict c = search needs

@@ -1,8 +1,8 @@
 -- `put_line` meets its contract: number, space, verdict and the end of the line are one text. Assumes nothing.
-use Rattle.records.proofs.LineWritten.{line-written}
+use Rattle.record_lines.proofs.LineWritten.{line-written}
 use borrow.Author.Needs.{needs}
-use Rattle.records.proofs.put_line.Statement.{statement}
-use Rattle.records.proofs.put_line.Tie as tie
+use Rattle.record_lines.proofs.put_line.Statement.{statement}
+use Rattle.record_lines.proofs.put_line.Tie as tie
 
 put-number-requires : tie.Need-put-number-requires
 put-number-requires c κs = search needs

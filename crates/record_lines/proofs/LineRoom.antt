@@ -14,7 +14,7 @@ use Rattle.verdict.specs.declared.Verdict.{Verdict}
 use Rattle.verdict.specs.declared.Verdict.the-variants.{Refused, Judged}
 use Rattle.verdict.specs.Verdict.{verdictYes}
 use Rattle.text.specs.Text.{decimalUpTo, decimal, Written}
-use Rattle.records.specs.Answers.{verdictWord, verdictText, lineText}
+use Rattle.record_lines.specs.Answers.{verdictWord, verdictText, lineText}
 
 -- ---- lengths
 

@@ -14,7 +14,7 @@ use Rattle.verdict.specs.declared.Verdict.{Verdict}
 use Rattle.verdict.specs.declared.Verdict.the-variants.{Refused, Judged}
 use Rattle.text.specs.Text.{decimal, Written}
 use Rattle.text.proofs.Writing.{written-within, written-both}
-use Rattle.records.specs.Answers.{verdictWord, verdictText, lineText}
+use Rattle.record_lines.specs.Answers.{verdictWord, verdictText, lineText}
 
 module _ {b : List ℕ} {at : ℕ} {first : List ℕ} {r : ℕ} {after : List ℕ} {s : ℕ} (room : at ≤ length b) where
   pub refused-written : {v : Verdict} {refusal : Refusal} {n : ℕ} → v ≡ Refused refusal → n ≡ refusalNumber refusal

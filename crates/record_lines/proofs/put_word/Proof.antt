@@ -1,7 +1,7 @@
 -- `put_word` meets its contract: the verdict decides between two words. Assumes nothing.
 use borrow.Author.Needs.{needs}
-use Rattle.records.proofs.put_word.Statement.{statement}
-use Rattle.records.proofs.put_word.Tie as tie
+use Rattle.record_lines.proofs.put_word.Statement.{statement}
+use Rattle.record_lines.proofs.put_word.Tie as tie
 
 slice-aggregate-put-bytes : tie.Need-slice-aggregate-put-bytes
 slice-aggregate-put-bytes c = search needs

@@ -1,15 +1,17 @@
 -- The line that answers a record (SPECIFICATION 5.3): number, verdict, opened, grade, rounds; or number, `refused`, the refusal. And the verdict of a whole
 -- record. Assumes nothing.
-use mathlib.Core.Bool.{Bool, cond}
+use mathlib.Core.Bool.{Bool, cond, _&&_}
 use mathlib.Core.List.{List, [], _∷_, _++_}
-use Prim.Native.Nat.{ℕ}
-use lib.Dec.{eqb}
+use Prim.Native.Nat.{ℕ, _*_}
+use lib.Dec.{leb, eqb}
 use lib.ListN.{replicate}
+use Rattle.refusals.specs.declared.Refusal.the-variants.{Mark}
+use Rattle.records.specs.declared.BoardMark.{BoardMark}
+use Rattle.records.specs.declared.BoardMark.the-variants.{Plain, Unknown}
 use Rattle.verdict.specs.declared.Verdict.{Verdict}
 use Rattle.verdict.specs.declared.Verdict.the-variants.{Refused}
 use Rattle.verdict.specs.Verdict.{verdictNumber, verdictYes, verdictOpened, verdictGrade, verdictRounds, isSolvable}
 use Rattle.text.specs.Text.{decimal}
-use Rattle.records.specs.Records.{pictureSize}
 
 -- `yes ` and `no `
 abbrev pub verdictWord : Bool → List ℕ
@@ -26,6 +28,11 @@ verdictText v =
 unfoldable pub lineText : ℕ → Verdict → List ℕ
 lineText number v = decimal number ++ (32 ∷ (verdictText v ++ (10 ∷ [])))
 
--- the verdict of a record's board, lent a picture of zeros
-unfoldable pub boardVerdict : ℕ → ℕ → ℕ → ℕ → List ℕ → Verdict
-boardVerdict rows columns row column cells = isSolvable rows columns row column cells (replicate (pictureSize rows columns) 0) .answer
+-- how many bytes of picture a board is lent: one for each cell, and none for a board that test 1 refuses
+unfoldable pub pictureSize : ℕ → ℕ → ℕ
+pictureSize rows columns = cond (leb rows 32 && leb columns 32) (rows * columns) 0
+
+-- the verdict of a record's board, by its mark: a plain board is judged, lent a picture of zeros
+unfoldable pub boardVerdict : BoardMark → ℕ → ℕ → ℕ → ℕ → List ℕ → Verdict
+boardVerdict Plain rows columns row column cells = isSolvable rows columns row column cells (replicate (pictureSize rows columns) 0) .answer
+boardVerdict Unknown rows columns row column cells = Refused Mark

@@ -1,0 +1,2 @@
+-- The lines that answer board records.
+pub mod Answers
