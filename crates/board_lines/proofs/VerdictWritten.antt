@@ -6,6 +6,7 @@ use mathlib.Core.List.{List}
 use Prim.Native.Nat.{ℕ, _≤_}
 use native.Mathlib.Omega.{arith}
 use lib.ListN.{length, take, replicate, length-replicate}
+use Rattle.grid.specs.Window.{flat}
 use Rattle.verdict.specs.Verdict.{VerdictSeen, isSolvable}
 use Rattle.text.specs.Text.{Written}
 use Rattle.text.proofs.Writing.{written-both}
@@ -30,7 +31,7 @@ pub zeros-long : (n : ℕ) → n ≤ 1025 → length (take n zeros) ≡ n
 zeros-long n h = rw (take-replicate {A = ℕ} n 1025 0 h) (length-replicate {A = ℕ} n 0)
 
 pub lent-zeros : (read : StartLine) → read .board .len ≤ 1025
-    → isSolvable (read .board .rows) (read .board .columns) (read .«start_row») (read .«start_column») (take (read .board .len) (read .board .cells))
+    → isSolvable flat (read .board .rows) (read .board .columns) (read .«start_row») (read .«start_column») (take (read .board .len) (read .board .cells))
     (take (read .board .len) zeros)
     ≡ verdictOn read
 lent-zeros read h = rw (take-replicate {A = ℕ} (read .board .len) 1025 0 h)

@@ -5,6 +5,7 @@ use mathlib.Core.List.{List, [], _∷_, _++_}
 use Prim.Native.Nat.{ℕ}
 use lib.Dec.{eqb}
 use lib.ListN.{take, replicate}
+use Rattle.grid.specs.Window.{flat}
 use Rattle.verdict.specs.declared.Verdict.{Verdict}
 use Rattle.verdict.specs.Verdict.{verdictNumber, VerdictSeen, isSolvable}
 use Rattle.show.specs.Cells.{cellsText}
@@ -23,7 +24,7 @@ verdictSeenText w = verdictText (w .answer) ++ pictureText (w .answer) (w .shown
 
 -- the call's answer to the line's board and start
 abbrev pub judgedOn : Line → ℕ → ℕ → VerdictSeen
-judgedOn board row column = isSolvable (board .rows) (board .columns) row column (take (board .len) (board .cells)) (replicate (board .len) 0)
+judgedOn board row column = isSolvable flat (board .rows) (board .columns) row column (take (board .len) (board .cells)) (replicate (board .len) 0)
 
 abbrev pub verdictOn : StartLine → VerdictSeen
 verdictOn l = judgedOn (l .board) (l .«start_row») (l .«start_column»)

@@ -1,4 +1,5 @@
 // The answer of is_solvable to a line with a start, as text: `yes 2 0 0 picture 1 10`, or `refused 5`. The text of the verdict is the one that answers a record.
+use grid::window::FLAT;
 use lines::read_start_line;
 use record_lines::put_verdict;
 use show::put_cells;
@@ -46,6 +47,7 @@ pub fn verdict_line(line: &[u8], out: &mut [u8]) -> usize
     let len = board.len;
     let mut picture = [0u8; 1025];
     let verdict = is_solvable(
+        FLAT,
         board.rows,
         board.columns,
         read.start_row,

@@ -6,7 +6,7 @@ use Prim.Native.Nat.{ℕ, _+_, _-_, _*_}
 use lib.Dec.{eqb}
 use lib.ListN.{length, replicate}
 use Rattle.lists.specs.Lists.{range, every, bit, same}
-use Rattle.grid.specs.Window.{neighbours}
+use Rattle.grid.specs.Window.{flat, neighbours}
 use Rattle.refusals.specs.Refusals.{testedNumber}
 use Rattle.refusals.specs.Tests.{boardTested, positionTested}
 use Rattle.blocks.specs.Blocks.{BlockEquation, Block}
@@ -49,8 +49,8 @@ pub data Case : Type 0 where
 -- the solver asks for every cell in turn, as often as there are cells, and then no ask changes the position
 unfoldable pub endsWith : ℕ → ℕ → ℕ → List ℕ → List ℕ → Bool
 endsWith rows columns s b p =
-    same (solved (neighbours rows columns) b s (range 0 (length b) ++ range 0 (length b))) p
-    && every (length b) (λ c. same (ask (neighbours rows columns) b p c) p)
+    same (solved (neighbours flat rows columns) b s (range 0 (length b) ++ range 0 (length b))) p
+    && every (length b) (λ c. same (ask (neighbours flat rows columns) b p c) p)
 
 -- two lists are equal, element by element by a test
 abbrev sameBy : {A : Type 0} → (A → A → Bool) → List A → List A → Bool
@@ -77,7 +77,7 @@ negative n cells = record { cells = cells; rest = 8 - n }
 
 -- what the caller of a rule sees, lent lists as long as the position
 abbrev called : (List Block → Found) → ℕ → ℕ → List ℕ → Seen
-called rule rows columns p = deduction rule rows columns p (replicate (length p) 0) (replicate (length p) 0)
+called rule rows columns p = deduction rule flat rows columns p (replicate (length p) 0) (replicate (length p) 0)
 
 -- a list holds these cells, and 0 behind them
 abbrev listHolds : List ℕ → ℕ → List ℕ → Bool
@@ -93,25 +93,25 @@ sameVerdict w n values after = eqb (verdictNumber (w .answer)) n && (same (verdi
 
 -- the line holds
 unfoldable pub holds : Case → Bool
-holds (board-tested rows columns row column b n) = eqb (testedNumber (boardTested rows columns row column b (rows * columns ∷ []))) n
+holds (board-tested rows columns row column b n) = eqb (testedNumber (boardTested flat rows columns row column b (rows * columns ∷ []))) n
 holds (position-tested rows columns p n) = eqb (testedNumber (positionTested rows columns p)) n
 holds (frontier-read rows columns p bs inside known) =
-    sameBy sameBlock (frontier (neighbours rows columns) p) bs
-    && (eqb (insideCells (neighbours rows columns) p) inside && eqb (knownMines p) known)
+    sameBy sameBlock (frontier (neighbours flat rows columns) p) bs
+    && (eqb (insideCells (neighbours flat rows columns) p) inside && eqb (knownMines p) known)
 holds (deduced rule rows columns p safe mines after left) =
     (eqb (testedNumber (called rule rows columns p .answer .tested)) 0 && same (called rule rows columns p .position) after)
     && (listHolds (called rule rows columns p .safe) (called rule rows columns p .answer .safe) safe
     && (listHolds (called rule rows columns p .mines) (called rule rows columns p .answer .mines) mines
-    && sameBy sameBlock (rule (frontier (neighbours rows columns) p) .left) left))
+    && sameBy sameBlock (rule (frontier (neighbours flat rows columns) p) .left) left))
 holds (contradictory rule rows columns p) =
     eqb (testedNumber (called rule rows columns p .answer .tested)) 6
     && (same (called rule rows columns p .position) p
     && (listHolds (called rule rows columns p .safe) (called rule rows columns p .answer .safe) []
     && listHolds (called rule rows columns p .mines) (called rule rows columns p .answer .mines) []))
-holds (tabulated rows columns p block lent n values after) = sameTable (calAllSolution rows columns p block lent) n values after
+holds (tabulated rows columns p block lent n values after) = sameTable (calAllSolution flat rows columns p block lent) n values after
 holds (judged rows columns row column b answer n grade rounds after) =
-    sameVerdict (isSolvable rows columns row column b (replicate (length b) 0)) 0 (bit answer ∷ n ∷ grade ∷ rounds ∷ []) after
-holds (unjudged rows columns row column b n) = sameVerdict (isSolvable rows columns row column b (replicate (length b) 0)) n [] (replicate (length b) 0)
+    sameVerdict (isSolvable flat rows columns row column b (replicate (length b) 0)) 0 (bit answer ∷ n ∷ grade ∷ rounds ∷ []) after
+holds (unjudged rows columns row column b n) = sameVerdict (isSolvable flat rows columns row column b (replicate (length b) 0)) n [] (replicate (length b) 0)
 holds (pattern rows columns b n values) =
     eqb (patternNumber (unsolvableStructure rows columns b)) n && same (patternValues (unsolvableStructure rows columns b)) values
 holds (solver rows columns s b p n all) = endsWith rows columns s b p && (eqb (opened p) n && Bool·beq (allOpen b p) all)

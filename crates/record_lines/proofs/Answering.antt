@@ -4,6 +4,7 @@ use mathlib.Core.Path.{_≡_, refl, sym, ap, _∙_}
 use mathlib.Core.List.{List, _∷_}
 use native.Mathlib.Omega.{arith}
 use lib.ListN.{take, replicate}
+use Rattle.grid.specs.Window.{flat}
 use Rattle.records.specs.declared.BoardMark.the-variants.{Plain}
 use Rattle.verdict.specs.declared.Verdict.{Verdict}
 use Rattle.verdict.specs.Verdict.{VerdictSeen, verdictSeen, isSolvable}
@@ -18,8 +19,8 @@ take-replicate (suc k) (suc n) x h = ap (x ∷_) (take-replicate k n x (omega ar
 -- so the call's answer is the record's verdict
 pub verdict-of-zeros : {shown : List ℕ} {v : Verdict} (rows columns row column : ℕ) (cells : List ℕ) (size : ℕ) (picture : List ℕ)
     → size ≡ pictureSize rows columns → size ≤ 1024 → picture ≡ replicate 1024 0
-    → verdictSeen v shown ≡ isSolvable rows columns row column cells (take size picture) → v ≡ boardVerdict Plain rows columns row column cells
+    → verdictSeen v shown ≡ isSolvable flat rows columns row column cells (take size picture) → v ≡ boardVerdict Plain rows columns row column cells
 unfolding boardVerdict
 verdict-of-zeros rows columns row column cells size picture g h i told =
     let z : take size picture ≡ replicate (pictureSize rows columns) 0 = rw (i, sym g) (take-replicate size 1024 0 h) in
-    ap (λ (s : VerdictSeen). s .answer) told ∙ ap (λ (lent : List ℕ). isSolvable rows columns row column cells lent .answer) z
+    ap (λ (s : VerdictSeen). s .answer) told ∙ ap (λ (lent : List ℕ). isSolvable flat rows columns row column cells lent .answer) z

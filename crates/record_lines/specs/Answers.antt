@@ -5,6 +5,7 @@ use mathlib.Core.List.{List, [], _∷_, _++_}
 use Prim.Native.Nat.{ℕ, _*_}
 use lib.Dec.{leb, eqb}
 use lib.ListN.{replicate}
+use Rattle.grid.specs.Window.{flat}
 use Rattle.refusals.specs.declared.Refusal.the-variants.{Mark}
 use Rattle.records.specs.declared.BoardMark.{BoardMark}
 use Rattle.records.specs.declared.BoardMark.the-variants.{Plain, Unknown}
@@ -34,5 +35,5 @@ pictureSize rows columns = cond (leb rows 32 && leb columns 32) (rows * columns)
 
 -- the verdict of a record's board, by its mark: a plain board is judged, lent a picture of zeros
 unfoldable pub boardVerdict : BoardMark → ℕ → ℕ → ℕ → ℕ → List ℕ → Verdict
-boardVerdict Plain rows columns row column cells = isSolvable rows columns row column cells (replicate (pictureSize rows columns) 0) .answer
+boardVerdict Plain rows columns row column cells = isSolvable flat rows columns row column cells (replicate (pictureSize rows columns) 0) .answer
 boardVerdict Unknown rows columns row column cells = Refused Mark

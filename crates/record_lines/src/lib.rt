@@ -1,5 +1,6 @@
 // The lines that answer board records, and the verdict of a whole one. A line is the record's number, then the verdict and its three numbers, or `refused` and the refusal's. What a
 // record is, `records` tells; which mark is judged how, is decided here.
+use grid::window::FLAT;
 use records::BoardMark;
 use refusals::Refusal;
 use refusals::refusal_number;
@@ -92,7 +93,7 @@ pub fn board_verdict(
     let size = picture_size(rows, columns);
     let mut picture = zeros();
     match mark {
-        BoardMark::Plain => is_solvable(rows, columns, row, column, cells, &mut picture[..size]),
+        BoardMark::Plain => is_solvable(FLAT, rows, columns, row, column, cells, &mut picture[..size]),
         BoardMark::Unknown => Verdict::Refused(Refusal::Mark),
     }
 }

@@ -6,7 +6,7 @@ use mathlib.Core.List.{List, [], _∷_}
 use Prim.Native.Nat.{ℕ}
 use lib.ListN.{replicate, length-replicate}
 use Rattle.grid.specs.Cells.{cellOf}
-use Rattle.grid.specs.Window.{neighbours}
+use Rattle.grid.specs.Window.{flat, neighbours}
 use Rattle.refusals.specs.declared.Tested.the-variants.{Accepted}
 use Rattle.refusals.specs.Tests.{boardTested, startCell}
 use Rattle.records.specs.declared.BoardMark.the-variants.{Plain}
@@ -15,11 +15,11 @@ use Rattle.verdict.proofs.DemandThree.{answer-demand-3}
 use Rattle.record_lines.specs.Answers.{pictureSize, boardVerdict}
 
 module _ (rows columns row column : ℕ) (b : List ℕ) where
-  pub line-demand-3 : boardTested rows columns row column b (pictureSize rows columns ∷ []) ≡ Accepted → cellOf b (startCell columns row column b) ≢ 255
-      → (shown : List ℕ) × MeetsDemand3 (neighbours rows columns) b (startCell columns row column b) (boardVerdict Plain rows columns row column b) shown
+  pub line-demand-3 : boardTested flat rows columns row column b (pictureSize rows columns ∷ []) ≡ Accepted → cellOf b (startCell columns row column b) ≢ 255
+      → (shown : List ℕ) × MeetsDemand3 (neighbours flat rows columns) b (startCell columns row column b) (boardVerdict Plain rows columns row column b) shown
   unfolding boardVerdict
   line-demand-3 tests safe = (
-    isSolvable rows columns row column b (replicate (pictureSize rows columns) 0) .shown,
-    answer-demand-3 rows columns row column b (replicate (pictureSize rows columns) 0)
+    isSolvable flat rows columns row column b (replicate (pictureSize rows columns) 0) .shown,
+    answer-demand-3 flat rows columns row column b (replicate (pictureSize rows columns) 0)
         (rw (length-replicate {A = ℕ} (pictureSize rows columns) 0) tests) safe _ _ refl,
   )

@@ -85,7 +85,7 @@ module _ (edgeless : Bool) (rows columns row column : ℕ) (b shown : List ℕ) 
     where
       go : (t : Tested) → tests ≡ t → verdictRounds (afterTests t judged shown .answer) ≤ length b
       go Accepted e =
-          judged-rounds rows columns b (startCell columns row column b) (tested-accepted edgeless rows columns row column b (length shown ∷ []) e)
+          judged-rounds edgeless rows columns b (startCell columns row column b) (tested-accepted edgeless rows columns row column b (length shown ∷ []) e)
           (accepted-board edgeless rows columns row column b (length shown ∷ []) e .start-within)
       go (TestRefused x) e = omega arith
 

@@ -60,7 +60,7 @@ module _ (edgeless : Bool) (rows columns row column : ℕ) (b lent : List ℕ) (
   no-rule-refuses {p} way =
       let near = neighbours edgeless rows columns in
       let once = neighbours-nodup edgeless rows columns in
-      let few = neighbours-few-everywhere edgeless rows columns in
+      let few = neighbours-few edgeless rows columns in
       let fit = own-on-the-way near b (threeRules near) (startCell columns row column b) (tested-accepted edgeless rows columns row column b lent tests)
       (accepted-board edgeless rows columns row column b lent tests .start-within) safe (board-rules-sound edgeless rows columns b) way in
       record {

@@ -28,7 +28,7 @@ abbrev read : tie.After-is-solvable → tie.After-read-start-line
 read c = c .before .before .before .before .before .before .before
 
 abbrev shown : tie.After-is-solvable → List ℕ
-shown c = c .is-solvable .last .1 .1 .1 .1 .1 .0
+shown c = c .is-solvable .last .1 .1 .1 .1 .1 .1 .0
 
 -- it is as long as the board has cells
 same-cells : (c : tie.After-is-solvable) → length (shown c) ≡ board (read c) .len
