@@ -36,6 +36,10 @@ equations-append bs cs =
 
 -- ---- what fits
 
+-- no blocks fit
+pub none-fits : Small []
+none-fits = record { few-cells = omega arith; few-equations = omega arith; few-blocks = omega arith; on-board = refl; small = refl }
+
 -- the first of blocks that fit together fit
 pub small-first : (bs cs : List Block) → Small (bs ++ cs) → Small bs
 small-first bs cs s =

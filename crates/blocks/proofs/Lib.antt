@@ -13,3 +13,5 @@ pub mod EightCells
 pub mod Between
 pub mod Behind
 pub mod Standing
+-- blocks as they should be, and what solves one
+pub mod ProperBlocks

@@ -20,13 +20,13 @@ use Rattle.refusals.specs.Tests.{deductionTested}
 use Rattle.refusals.proofs.Accepted.{few-cells, AcceptedDeduction, accepted-deduction}
 use Rattle.blocks.specs.Blocks.{Block}
 use Rattle.blocks.specs.BlockSets.{Small, Whole}
-use Rattle.blocks.proofs.Behind.{set-whole}
+use Rattle.blocks.proofs.Behind.{set-whole, none-fits}
 use Rattle.frontier.specs.Frontier.{frontier}
 use Rattle.frontier.proofs.ReadFrontier.{frontier-fits}
 use Rattle.rules.specs.Found.{Found, contradicted, found}
 use Rattle.rules.specs.Direct.{direct}
 use Rattle.rules.proofs.Soundness.{SoundAt, listed-few}
-use Rattle.rules.proofs.LeftFits.{none-fits, direct-left-fits}
+use Rattle.rules.proofs.LeftFits.{direct-left-fits}
 use Rattle.subtraction.specs.Minus.{subtraction}
 use Rattle.subtraction.proofs.LeftFits.{subtraction-left-fits}
 use Rattle.solutions.specs.Enumeration.{safeCells, mineCells, unsolvable, enumerated}

@@ -20,8 +20,8 @@ use Rattle.lists.proofs.Among.{Among, nodup-among, joined-reverse, joined-among
 use Rattle.blocks.specs.Blocks.{BlockEquation, Block}
 use Rattle.blocks.specs.BlockSets.{allCells, allEquations}
 use Rattle.blocks.proofs.Saying.{says-all-mines, says-all-free}
+use Rattle.blocks.proofs.ProperBlocks.{Proper}
 use Rattle.chunks.specs.Chunks.{chunkMatrixes}
-use Rattle.frontier.proofs.BlockLaws.{Proper}
 use Rattle.rules.specs.Found.{contradicted, lessMines, lessSafe}
 use Rattle.rules.specs.Direct.{full, clear, cellsOf, sureMines, afterMines, sureSafe, afterSafe, directLeft, negative, fromLast, direct}
 use Rattle.rules.proofs.TakenOut.{taken-out-proper, SolvedBy, SolvesAll, isNegative, RestCovers, RestsCover, covers-less-mines, covers-less-safe, solves-less-mines, solves-less-safe, solved-not-negative}

@@ -21,12 +21,13 @@ use Rattle.grid.specs.Cells.{shows}
 use Rattle.fitting.specs.Equations.{isKnownMine}
 use Rattle.blocks.specs.Blocks.{BlockEquation}
 use Rattle.blocks.specs.BlockSets.{allEquations}
+use Rattle.blocks.proofs.ProperBlocks.{block-equation}
 use Rattle.sources.specs.Sources.{closedBeside, sources}
 use Rattle.sources.specs.Equations.{knownBeside, plainEquation, plainEquations}
 use Rattle.sources.proofs.ListedSources.{listed-source, source-listed}
 use Rattle.growth.proofs.Partition.{source-in-part, part-has-sources}
 use Rattle.frontier.specs.Frontier.{equationOf, cellsMet, blockOf, frontier}
-use Rattle.frontier.proofs.BlockLaws.{block-equation, source-equation, equation-rearranged, frontier-proper, Origin, equation-origin}
+use Rattle.frontier.proofs.BlockLaws.{source-equation, equation-rearranged, frontier-proper, Origin, equation-origin}
 use Rattle.frontier.proofs.Coverage.{frontier-once}
 use Rattle.rules.specs.Direct.{full, direct}
 use Rattle.rules.specs.AtPosition.{minesWith, fullAt, isMineAt, isContradictoryAt}

@@ -19,7 +19,7 @@ use Rattle.lists.proofs.PassingElements.{not-passes, any-mem, mem-any, any-ext,
 use Rattle.lists.proofs.Among.{joined-once}
 use Rattle.blocks.specs.Blocks.{BlockEquation, Block}
 use Rattle.blocks.specs.BlockSets.{allCells, allEquations}
-use Rattle.frontier.proofs.BlockLaws.{block-equation, equation-block, Proper}
+use Rattle.blocks.proofs.ProperBlocks.{block-equation, equation-block, Proper}
 use Rattle.rules.specs.Found.{lessMines, lessSafe}
 use Rattle.rules.specs.Direct.{full, clear, sureMines, afterMines, sureSafe, afterSafe, directLeft, fromLast, direct}
 use Rattle.rules.proofs.TakenOut.{isNegative}

@@ -24,7 +24,7 @@ use Rattle.lists.proofs.Occurrences.{kept-in, in-kept, keep-agree, all-in, in-a
 use Rattle.lists.proofs.PlacesAndRanges.{all-places}
 use Rattle.blocks.specs.Blocks.{BlockEquation, Block}
 use Rattle.blocks.specs.BlockSets.{slotCells}
-use Rattle.frontier.proofs.BlockLaws.{Proper}
+use Rattle.blocks.proofs.ProperBlocks.{Proper}
 use Rattle.groups.specs.Groups.{noCells, firsts, sizes, groupsIn}
 use Rattle.groups.specs.Grouping.{Combinable, grouped}
 use Rattle.groups.proofs.GroupLaws.{sizes-long, firsts-some, combinable-proper}

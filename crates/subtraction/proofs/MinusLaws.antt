@@ -20,8 +20,8 @@ use Rattle.lists.proofs.Among.{Among, among-left, among-right, keep-both-among,
 use Rattle.fitting.proofs.Equations.{Exceeds, subtract-mines, subtract-safe}
 use Rattle.blocks.specs.Blocks.{BlockEquation, Block, says}
 use Rattle.blocks.specs.BlockSets.{allCells, allEquations}
+use Rattle.blocks.proofs.ProperBlocks.{Proper}
 use Rattle.chunks.specs.Chunks.{chunkMatrixes}
-use Rattle.frontier.proofs.BlockLaws.{Proper}
 use Rattle.rules.specs.Found.{contradicted, lessMines, lessSafe}
 use Rattle.rules.specs.Direct.{fromLast, direct}
 use Rattle.rules.proofs.TakenOut.{taken-out-proper, SolvedBy, SolvesAll, solves-less-mines, solves-less-safe, RestCovers, RestsCover, covers-less-mines, covers-less-safe}

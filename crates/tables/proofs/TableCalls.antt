@@ -26,8 +26,9 @@ use Rattle.refusals.proofs.FirstFailure.{not-both}
 use Rattle.refusals.proofs.RefusalNumbers.{refusal-numbered}
 use Rattle.blocks.specs.Blocks.{Block}
 use Rattle.blocks.proofs.Reading.{noBlock}
+use Rattle.blocks.proofs.ProperBlocks.{Proper}
 use Rattle.frontier.specs.Frontier.{frontier}
-use Rattle.frontier.proofs.BlockLaws.{Proper, frontier-proper}
+use Rattle.frontier.proofs.BlockLaws.{frontier-proper}
 use Rattle.groups.specs.Groups.{firsts, sizes}
 use Rattle.search.specs.Solutions.{solves, solutions}
 use Rattle.search.proofs.Vectors.{withinSizes}

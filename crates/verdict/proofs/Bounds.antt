@@ -17,7 +17,6 @@ use Rattle.refusals.specs.Tests.{boardTested, startCell}
 use Rattle.refusals.proofs.Accepted.{accepted-board}
 use Rattle.fitting.specs.Boards.{Accepted as AcceptedBoard}
 use Rattle.fitting.specs.Passes.{nothing, orElse}
-use Rattle.fitting.proofs.Admitted.{tested-accepted}
 use Rattle.fitting.proofs.Passes.{rounds-cells, grade-bound}
 use Rattle.rules.specs.Found.{ruleOf}
 use Rattle.rules.specs.Direct.{direct}
@@ -26,6 +25,7 @@ use Rattle.solutions.specs.ThreeRules.{threeRules}
 use Rattle.solutions.proofs.BoardRules.{board-rules-sound}
 use Rattle.verdict.specs.declared.Verdict.{Verdict}
 use Rattle.verdict.specs.Verdict.{verdictGrade, verdictRounds, VerdictSeen, verdictSeen, afterTests, judgedFrom, isSolvable}
+use Rattle.verdict.proofs.Admitted.{tested-accepted}
 
 -- the three rules have the grades 1, 2 and 3
 pub three-grades : (near : ℕ → List ℕ) (p : List ℕ) → threeRules near p .grade ≤ 3

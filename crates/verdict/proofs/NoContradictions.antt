@@ -16,7 +16,6 @@ use Rattle.fitting.specs.Layouts.{Fits}
 use Rattle.fitting.specs.Boards.{Accepted as AcceptedBoard, own}
 use Rattle.fitting.specs.Passes.{Found, pass, judge}
 use Rattle.fitting.specs.Rules.{Sound}
-use Rattle.fitting.proofs.Admitted.{tested-accepted}
 use Rattle.fitting.proofs.Steps.{beginning}
 use Rattle.fitting.proofs.Passes.{begin-own, pass-own, passes-keep}
 use Rattle.frontier.specs.Frontier.{frontier}
@@ -28,6 +27,7 @@ use Rattle.solutions.specs.Enumeration.{enumerated}
 use Rattle.solutions.specs.ThreeRules.{threeRules}
 use Rattle.solutions.proofs.BoardRules.{neighbours-few-everywhere, board-rules-sound}
 use Rattle.solutions.proofs.Completeness.{enumeration-sound-at}
+use Rattle.verdict.proofs.Admitted.{tested-accepted}
 
 -- the positions that the passes from the start s come to
 pub data OnTheWay (near : ℕ → List ℕ) (b : List ℕ) (rule : List ℕ → Found) (s : ℕ) : List ℕ → Type 0 where

@@ -7,7 +7,7 @@ use Rattle.refusals.specs.declared.Tested.the-variants.{Accepted}
 use Rattle.refusals.specs.Tests.{deductionTested}
 use Rattle.refusals.proofs.Accepted.{AcceptedDeduction, accepted-deduction}
 use Rattle.frontier.proofs.ReadFrontier.{read-whole}
-use Rattle.groups.proofs.FrontierBlocks.{read-combinable}
+use Rattle.frontier.proofs.CombinableBlocks.{read-combinable}
 use Rattle.solutions.specs.Enumeration.{enumerated}
 use Rattle.deductions.specs.Answers.{solveEnumerate}
 use Rattle.deductions.proofs.Deductions.{tests-refuse, rule-held, rule-seen}
