@@ -34,7 +34,7 @@ use Rattle.search.specs.Solutions.{solves, solutions}
 use Rattle.search.proofs.Vectors.{withinSizes}
 use Rattle.search.proofs.ListedSolutions.{solutions-once, solutions-in-order}
 use Rattle.search.proofs.GroupRows.{row-listed, listed-row}
-use Rattle.tables.specs.Tables.{tableNumber, tableSolutions, tableGroups, TableSeen, tableSeen, rowAt, refused, tableOf, blockAsked, calAllSolution}
+use Rattle.tables.specs.Tables.{tableNumber, tableSolutions, tableGroups, TableSeen, tableSeen, rowAt, tableRefused, tableOf, blockAsked, calAllSolution}
 use Rattle.tables.specs.Listed.{askedBlock, Accepts, ListedTable, TableCall}
 use Rattle.tables.specs.declared.TableAnswer.{TableAnswer}
 use Rattle.tables.specs.declared.TableAnswer.the-variants.{Refused, Listed}
@@ -88,7 +88,7 @@ module _ (rows columns : ℕ) (p : List ℕ) (k : ℕ) (t : List ℕ) where
   asked = askedBlock rows columns p k
 
   -- the tests refuse
-  pub tests-refuse : (x : Refusal) → positionTested rows columns p ≡ test.Refused x → refused x t ≡ calAllSolution rows columns p k t
+  pub tests-refuse : (x : Refusal) → positionTested rows columns p ≡ test.Refused x → tableRefused x t ≡ calAllSolution rows columns p k t
   unfolding calAllSolution
   tests-refuse x h = rw h
 
@@ -103,7 +103,7 @@ module _ (rows columns : ℕ) (p : List ℕ) (k : ℕ) (t : List ℕ) where
 
   abbrev Outcome : Type 0
   Outcome =
-      ((x : Refusal) × (Accepts rows columns p k t → ⊥) × (calAllSolution rows columns p k t ≡ refused x t))
+      ((x : Refusal) × (Accepts rows columns p k t → ⊥) × (calAllSolution rows columns p k t ≡ tableRefused x t))
       ⊎ (Accepts rows columns p k t × (calAllSolution rows columns p k t ≡ listing))
 
   outcome : Outcome

@@ -24,7 +24,7 @@ use Rattle.subtraction.specs.Minus.{subtraction}
 use Rattle.solutions.specs.ThreeRules.{threeRules}
 use Rattle.solutions.proofs.BoardRules.{board-rules-sound}
 use Rattle.verdict.specs.declared.Verdict.{Verdict}
-use Rattle.verdict.specs.Verdict.{verdictGrade, verdictRounds, VerdictSeen, verdictSeen, afterTests, judgedFrom, isSolvable}
+use Rattle.verdict.specs.Verdict.{verdictGrade, verdictRounds, VerdictSeen, verdictSeen, verdictAfterTests, judgedFrom, isSolvable}
 use Rattle.verdict.proofs.Admitted.{tested-accepted}
 
 -- the three rules have the grades 1, 2 and 3
@@ -73,7 +73,7 @@ module _ (rows columns row column : ℕ) (b shown : List ℕ) where
   unfolding isSolvable
   grade-at-most-three = go tests
     where
-      go : (t : Tested) → verdictGrade (afterTests t judged shown .answer) ≤ 3
+      go : (t : Tested) → verdictGrade (verdictAfterTests t judged shown .answer) ≤ 3
       go Accepted = judged-grade (neighbours rows columns) b (startCell columns row column b)
       go (TestRefused x) = omega arith
 
@@ -82,7 +82,7 @@ module _ (rows columns row column : ℕ) (b shown : List ℕ) where
   unfolding isSolvable
   rounds-at-most-cells = go tests refl
     where
-      go : (t : Tested) → tests ≡ t → verdictRounds (afterTests t judged shown .answer) ≤ length b
+      go : (t : Tested) → tests ≡ t → verdictRounds (verdictAfterTests t judged shown .answer) ≤ length b
       go Accepted e =
           judged-rounds rows columns b (startCell columns row column b) (tested-accepted rows columns row column b (length shown) e)
           (accepted-board rows columns row column b (length shown) e .start-within)
