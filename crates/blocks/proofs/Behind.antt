@@ -36,6 +36,10 @@ equations-append bs cs =
 
 -- ---- what fits
 
+-- no blocks fit
+pub none-fits : Small []
+none-fits = record { few-cells = omega arith; few-equations = omega arith; few-blocks = omega arith; on-board = refl; small = refl }
+
 -- the first of blocks that fit together fit
 pub small-first : (bs cs : List Block) → Small (bs ++ cs) → Small bs
 small-first bs cs s =
@@ -83,11 +87,11 @@ module _ (out : BlockSet) (bs : List Block) (is : out ≡ blockSet bs) where
   unfolding blockSet
   full-cells s = rw is (length-pad 1024 0 (allCells bs) (s .few-cells))
 
-  full-slots : Small bs → length (out .slots) ≡ 8192
+  pub full-slots : Small bs → length (out .slots) ≡ 8192
   unfolding blockSet
   full-slots s = rw is (length-pad 8192 65535 (joined (map slotsOf (allEquations bs))) (omega (arith, s .few-equations, length-all-slots (allEquations bs) (s .small))))
 
-  full-rests : Small bs → length (out .rests) ≡ 1024
+  pub full-rests : Small bs → length (out .rests) ≡ 1024
   unfolding blockSet
   full-rests s =
       let rest : BlockEquation → ℕ = λ e. e .rest in
@@ -106,6 +110,9 @@ module _ (out : BlockSet) (h : Whole out) where
   pub blocks-held : out .blocks ≡ length (blocksOf out)
   blocks-held = next-block out (blocksOf out) (h .is)
 
+  pub blocks-few : out .blocks ≤ 1024
+  blocks-few = omega (arith, blocks-held, h .fits .few-blocks)
+
   pub cells-held : beginAt (out .«cell_ends») (out .blocks) ≡ length (allCells (blocksOf out))
   cells-held = next-cell out (blocksOf out) (h .is)
 
@@ -122,7 +129,18 @@ slots-behind es fs a b h =
     ∙ pad-sets 8192 65535 (joined (map slotsOf es)) (joined (map slotsOf fs)) (omega (arith, length-all-slots es a, length-all-slots fs b))
     ∙ ap (pad 8192 65535) (sym (ap joined (map-append slotsOf es fs) ∙ joined-append (map slotsOf es) (map slotsOf fs)))
 
-put-block : (out : BlockSet) (bs : List Block) (q : Block) → out ≡ blockSet bs → Small (bs ++ (q ∷ []))
+-- what blocks that fit with one more leave for it
+module _ (bs : List Block) (q : Block) (fits : Small (bs ++ (q ∷ []))) where
+  pub block-fits : length bs < 1024
+  block-fits = omega (arith, fits .few-blocks, length-append bs (q ∷ []))
+
+  pub cells-fit : length (allCells bs) + length (q .cells) ≤ 1024
+  cells-fit = omega (arith, fits .few-cells, ap length (cells-push bs q), length-append (allCells bs) (q .cells))
+
+  pub equations-fit : length (allEquations bs) + length (q .equations) ≤ 1024
+  equations-fit = omega (arith, fits .few-equations, ap length (equations-push bs q), length-append (allEquations bs) (q .equations))
+
+pub put-block : (out : BlockSet) (bs : List Block) (q : Block) → out ≡ blockSet bs → Small (bs ++ (q ∷ []))
     → record {
       cells = sets (out .cells) (length (allCells bs)) (q .cells);
       «cell_ends» = set (out .«cell_ends») (out .blocks) (length (allCells bs) + length (q .cells));
@@ -137,8 +155,7 @@ put-block out bs q is s =
     let es = allEquations bs in
     let fs = q .equations in
     let both : all smallEquation es && all smallEquation fs ≡ true = sym (all-append smallEquation es fs) ∙ ap (all smallEquation) (sym (equations-push bs q)) ∙ s .small in
-    let cells : length (allCells bs) + length (q .cells) ≤ 1024 = omega (arith, s .few-cells, ap length (cells-push bs q), length-append (allCells bs) (q .cells)) in
-    let equations : length es + length fs ≤ 1024 = omega (arith, s .few-equations, ap length (equations-push bs q), length-append es fs) in
+    let equations : length es + length fs ≤ 1024 = equations-fit bs q s in
     let rest : BlockEquation → ℕ = λ e. e .rest in
     let rests : sets (pad 1024 0 (map rest es)) (length es) (map rest fs) ≡ pad 1024 0 (map rest (es ++ fs)) =
     ap (λ (i : ℕ). sets (pad 1024 0 (map rest es)) i (map rest fs)) (sym (length-map es rest))
@@ -146,11 +163,11 @@ put-block out bs q is s =
     ∙ ap (pad 1024 0) (sym (map-append rest es fs)) in
     rw (
       is,
-      pad-sets 1024 0 (allCells bs) (q .cells) cells,
+      pad-sets 1024 0 (allCells bs) (q .cells) (cells-fit bs q s),
       slots-behind es fs (and-left (all smallEquation es) (all smallEquation fs) both) (and-right (all smallEquation es) (all smallEquation fs) both) equations,
       rests,
     )
-    (block-push bs q (omega (arith, s .few-blocks, length-append bs (q ∷ []))))
+    (block-push bs q (block-fits bs q s))
 
 -- a block put behind those of a set
 pub put-behind : (out : BlockSet) (q : Block) → Room out (q ∷ [])
@@ -167,13 +184,13 @@ put-behind out q r = put-block out (blocksOf out) q (r .held .is) (r .fits)
 
 module _ (out : BlockSet) (q : Block) (r : Room out (q ∷ [])) where
   pub room-blocks : out .blocks < 1024
-  room-blocks = omega (arith, blocks-held out (r .held), r .fits .few-blocks, length-append (blocksOf out) (q ∷ []))
+  room-blocks = omega (arith, blocks-held out (r .held), block-fits (blocksOf out) q (r .fits))
 
   pub room-cells : length (allCells (blocksOf out)) + length (q .cells) ≤ 1024
-  room-cells = omega (arith, r .fits .few-cells, ap length (cells-push (blocksOf out) q), length-append (allCells (blocksOf out)) (q .cells))
+  room-cells = cells-fit (blocksOf out) q (r .fits)
 
   pub room-equations : length (allEquations (blocksOf out)) + length (q .equations) ≤ 1024
-  room-equations = omega (arith, r .fits .few-equations, ap length (equations-push (blocksOf out) q), length-append (allEquations (blocksOf out)) (q .equations))
+  room-equations = equations-fit (blocksOf out) q (r .fits)
 
 -- ---- blocks put one after another
 

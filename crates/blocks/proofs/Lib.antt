@@ -1,9 +1,8 @@
--- The laws of the block set: its slots, its ends, how it is filled, the room in it, how it is read, the turns of the code's loops, and what an equation says.
+-- The laws of the block set: its slots, its ends, how it is filled, how it is read, the turns of the code's loops, and what an equation says.
 pub mod Slots
 pub mod SlotLaws
 pub mod Ends
 pub mod Filling
-pub mod Room
 pub mod Reading
 pub mod Turns
 pub mod Saying
@@ -13,3 +12,5 @@ pub mod EightCells
 pub mod Between
 pub mod Behind
 pub mod Standing
+-- blocks as they should be, and what solves one
+pub mod ProperBlocks

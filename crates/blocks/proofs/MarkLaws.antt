@@ -2,7 +2,7 @@
 -- on `getD-set-other`. Assumes nothing.
 use mathlib.Core.Path.{_≡_, refl, sym, ap, _∙_}
 use mathlib.Core.Logic.{inl, inr}
-use mathlib.Core.Bool.{Bool, true, false, _||_}
+use mathlib.Core.Bool.{Bool, true, false, _||_, or-false, or-true}
 use mathlib.Core.List.{List, [], _∷_, _++_}
 use Prim.Native.Nat.{ℕ, _+_, _<_}
 use native.Mathlib.Omega.{arith}
@@ -11,7 +11,7 @@ use lib.ListN.{length, getD, set, take, drop, replicate, length-replicate}
 use lib.Seq.{getD-set-same, getD-set-other}
 use borrow.Author.Tests.{eqb-true, eqb-false, ltb-true}
 use Rattle.lists.specs.Lists.{bit, any, has, meets}
-use Rattle.lists.proofs.Tests.{Decided, decided}
+use Rattle.lists.proofs.Tests.{Decided, decided, bit-is-one}
 use Rattle.lists.proofs.Members.{has-append}
 use Rattle.lists.proofs.Occurrences.{any-agree}
 use Rattle.lists.proofs.Counted.{counted-more, counted-passes}
@@ -21,25 +21,13 @@ use Rattle.blocks.specs.Places.{marked, Marks, OnBoard}
 
 -- ---- a mark read
 
-bit-one : (t : Bool) → eqb (bit t) 1 ≡ t
-bit-one true = refl
-bit-one false = refl
-
 pub marks-has : {marks cells : List ℕ} → Marks marks cells → (c : ℕ) → marked marks c ≡ has cells c
-marks-has {marks} {cells} h c = ap (λ (n : ℕ). eqb n 1) (h .at c) ∙ bit-one (has cells c)
+marks-has {marks} {cells} h c = ap (λ (n : ℕ). eqb n 1) (h .at c) ∙ bit-is-one (has cells c)
 
 pub marks-meets : {marks cells : List ℕ} → Marks marks cells → (l : List ℕ) → any (marked marks) l ≡ meets l cells
 marks-meets {marks} {cells} h l = any-agree (marked marks) (has cells) l (λ c m. marks-has h c)
 
 -- ---- a mark set
-
-or-off : (t : Bool) → (t || (false || false)) ≡ t
-or-off true = refl
-or-off false = refl
-
-or-on : (t : Bool) → (t || (true || false)) ≡ true
-or-on true = refl
-or-on false = refl
 
 pub marks-push : (marks cells : List ℕ) (c : ℕ) → c < length marks → Marks marks cells → Marks (set marks c 1) (cells ++ (c ∷ []))
 marks-push marks cells c u h = record { at = λ d. go d (decided (eqb d c)) }
@@ -47,10 +35,10 @@ marks-push marks cells c u h = record { at = λ d. go d (decided (eqb d c)) }
     go : (d : ℕ) → Decided (eqb d c) → getD (set marks c 1) d 0 ≡ bit (has (cells ++ (c ∷ [])) d)
     go d (inl e) =
         let w : d ≡ c = eqb-true d c e in
-        let there : has (cells ++ (c ∷ [])) d ≡ true = has-append cells (c ∷ []) d ∙ rw e (or-on (has cells d)) in
+        let there : has (cells ++ (c ∷ [])) d ≡ true = has-append cells (c ∷ []) d ∙ rw e (or-true (has cells d)) in
         ap (λ (x : ℕ). getD (set marks c 1) x 0) w ∙ getD-set-same marks c 1 0 u ∙ sym (ap bit there)
     go d (inr e) =
-        let same : has (cells ++ (c ∷ [])) d ≡ has cells d = has-append cells (c ∷ []) d ∙ rw e (or-off (has cells d)) in
+        let same : has (cells ++ (c ∷ [])) d ≡ has cells d = has-append cells (c ∷ []) d ∙ rw e (or-false (has cells d)) in
         getD-set-other marks c d 1 0 (eqb-false d c e) ∙ h .at d ∙ sym (ap bit same)
 
 -- nothing is marked

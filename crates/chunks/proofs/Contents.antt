@@ -12,10 +12,10 @@ use lib.ListN.{length}
 use Rattle.lists.specs.Lists.{bit, keep, count, all, empty, joined, has, nodup, meets}
 use Rattle.lists.proofs.Tests.{Decided, decided}
 use Rattle.lists.proofs.Members.{has-head}
-use Rattle.lists.proofs.Counts.{any-of}
+use Rattle.lists.proofs.Counts.{any-of, count-append, count-kept}
 use Rattle.lists.proofs.Joined.{joined-push}
 use Rattle.lists.proofs.Occurrences.{empty-nil, all-in}
-use Rattle.lists.proofs.CountsAlike.{counts-append, counts-keep, counts-sum, counts-ext, counts-map}
+use Rattle.lists.proofs.CountsAlike.{counts-sum, counts-ext, counts-map}
 use Rattle.lists.proofs.Rearranged.{nodup-count, count-nodup}
 use Rattle.lists.proofs.Sharing.{apart-meets, all-within}
 use Rattle.blocks.specs.Blocks.{BlockEquation, Block}
@@ -81,7 +81,7 @@ chunk-cells b f = go (decided (empty (b .cells)))
         ∙ ap (count f) (cells-append (parts b (length (b .cells)) (b .cells)) (map alone (withoutCells b)) ∙ ap (λ (l : List ℕ). allCells (parts b (length (b .cells)) (b .cells)) ++ l) (alone-cells (withoutCells b)))
         ∙ ap (count f) (append-nil (allCells (parts b (length (b .cells)) (b .cells))))
         ∙ parts-cells b f (length (b .cells)) (b .cells) (omega arith) (λ c h. refl)
-        ∙ sym (counts-keep f (inEquation (b .equations)) (b .cells))
+        ∙ sym (count-kept f (inEquation (b .equations)) (b .cells))
 
 pub chunk-equations : (b : Block) → empty (b .cells) ≡ false → (g : BlockEquation → Bool)
     → count g (allEquations (chunkMatrix b))
@@ -91,10 +91,10 @@ chunk-equations b t g =
     ∙ omega (
       arith,
       ap (count g) (equations-append (parts b (length (b .cells)) (b .cells)) (map alone (withoutCells b))),
-      counts-append g (allEquations (parts b (length (b .cells)) (b .cells))) (allEquations (map alone (withoutCells b))),
+      count-append g (allEquations (parts b (length (b .cells)) (b .cells))) (allEquations (map alone (withoutCells b))),
       parts-equations b g (length (b .cells)) (b .cells) (omega arith),
       ap (count g) (alone-equations (withoutCells b)),
-      counts-keep g (λ (e : BlockEquation). empty (e .cells)) (b .equations),
+      count-kept g (λ (e : BlockEquation). empty (e .cells)) (b .equations),
     )
 
 -- an equation without cells is connected with nothing
@@ -126,10 +126,10 @@ chunk-equations-inside b h t g =
       chunk-equations b t g,
       counts-ext (λ (e : BlockEquation). reached b e && g (turned e)) (λ (e : BlockEquation). not (empty (e .cells)) && g (turned e)) (b .equations)
           (λ e m. ap (λ (x : Bool). x && g (turned e)) (inside-reached b h e m)),
-      counts-append g (map turned some) (withoutCells b),
+      count-append g (map turned some) (withoutCells b),
       counts-map g turned some,
-      counts-keep (λ e. g (turned e)) (λ (e : BlockEquation). not (empty (e .cells))) (b .equations),
-      counts-keep g (λ (e : BlockEquation). empty (e .cells)) (b .equations),
+      count-kept (λ e. g (turned e)) (λ (e : BlockEquation). not (empty (e .cells))) (b .equations),
+      count-kept g (λ (e : BlockEquation). empty (e .cells)) (b .equations),
     )
 
 pub inside-dropped : (b : Block) → inside b ≡ true → dropped b ≡ cond (empty (b .cells)) (b .equations) []
@@ -179,7 +179,7 @@ module _ (g : BlockEquation → Bool) (same : (e : BlockEquation) → g (turned 
             counts-sum (λ (e : BlockEquation). reached b e && g (turned e)) (λ (e : BlockEquation). empty (e .cells) && g e)
                 (λ (e : BlockEquation). (reached b e || empty (e .cells)) && g e) (b .equations) (λ e m. once e),
             counts-sum (λ (e : BlockEquation). (reached b e || empty (e .cells)) && g e) (λ (e : BlockEquation). not (reached b e || empty (e .cells)) && g e) g (b .equations) (λ e m. rest e),
-            counts-keep g (λ (e : BlockEquation). not (reached b e || empty (e .cells))) (b .equations),
+            count-kept g (λ (e : BlockEquation). not (reached b e || empty (e .cells))) (b .equations),
           ))
 
 -- ---- all blocks
@@ -200,10 +200,10 @@ chunks-cells f (b ∷ bs) =
       arith,
       ap (λ (l : List Block). count f (allCells l)) (chunks-cons b bs),
       ap (count f) (cells-append (chunkMatrixes bs) (chunkMatrix b)),
-      counts-append f (allCells (chunkMatrixes bs)) (allCells (chunkMatrix b)),
+      count-append f (allCells (chunkMatrixes bs)) (allCells (chunkMatrix b)),
       chunk-cells b f,
       chunks-cells f bs,
-      counts-append f (usedCells b) (joined (map usedCells bs)),
+      count-append f (usedCells b) (joined (map usedCells bs)),
     )
 
 -- no cell stands more often than before
@@ -224,7 +224,7 @@ chunks-cells-fewer f bs = omega (arith, chunks-cells f bs, go bs)
   where
     go : (cs : List Block) → count f (joined (map usedCells cs)) ≤ count f (allCells cs)
     go [] = omega arith
-    go (c ∷ cs) = omega (arith, counts-append f (usedCells c) (joined (map usedCells cs)), counts-append f (c .cells) (allCells cs), used-fewer f c, go cs)
+    go (c ∷ cs) = omega (arith, count-append f (usedCells c) (joined (map usedCells cs)), count-append f (c .cells) (allCells cs), used-fewer f c, go cs)
 
 -- none stands twice if none did
 pub chunks-once : (bs : List Block) → nodup (allCells bs) ≡ true → nodup (allCells (chunkMatrixes bs)) ≡ true
@@ -238,9 +238,9 @@ chunks-kept g same (b ∷ bs) =
       arith,
       ap (λ (l : List Block). count g (allEquations l)) (chunks-cons b bs),
       ap (count g) (equations-append (chunkMatrixes bs) (chunkMatrix b)),
-      counts-append g (allEquations (chunkMatrixes bs)) (allEquations (chunkMatrix b)),
+      count-append g (allEquations (chunkMatrixes bs)) (allEquations (chunkMatrix b)),
       chunk-kept g same b,
       chunks-kept g same bs,
-      counts-append g (dropped b) (allDropped bs),
-      counts-append g (b .equations) (allEquations bs),
+      count-append g (dropped b) (allDropped bs),
+      count-append g (b .equations) (allEquations bs),
     )

@@ -4,17 +4,17 @@
 use mathlib.Core.Path.{_≡_, refl, sym, ap, _∙_}
 use mathlib.Core.Logic.{_⊎_, inl, inr}
 use mathlib.Core.Bool.{Bool, true, false, not, cond, _&&_}
-use mathlib.Core.List.{List, [], _∷_, _++_, map, append-nil, reverse, List·Memᴰ, List·Memᴰ·not-nil, List·Memᴰ·append-cases, List·Memᴰ·eq-of-singleton}
+use mathlib.Core.List.{List, [], _∷_, append-nil, reverse, List·Memᴰ, List·Memᴰ·not-nil, List·Memᴰ·append-cases, List·Memᴰ·eq-of-singleton, Memᴰ·map}
 use Prim.Native.Nat.{ℕ, zero, suc, _+_, _≤_}
 use native.Mathlib.Omega.{arith}
 use lib.ListN.{length}
-use Rattle.lists.specs.Lists.{bit, keep, count, empty, joined, has, meets}
+use Rattle.lists.specs.Lists.{bit, keep, count, empty, has, meets}
 use Rattle.lists.proofs.Tests.{Decided, decided, clash}
 use Rattle.lists.proofs.Members.{has-head, has-tail, has-keep, kept-passes, kept-has}
-use Rattle.lists.proofs.Counts.{any-at, any-of, count-le, count-ext, count-zero, count-split, length-keep}
+use Rattle.lists.proofs.Counts.{any-at, any-of, count-le, count-ext, count-zero, count-split, length-keep, count-append, count-kept}
 use Rattle.lists.proofs.Kept.{keep-stricter}
-use Rattle.lists.proofs.Occurrences.{empty-nothing, not-empty, empty-nil, kept-in, in-kept, reverse-in, in-reverse, any-in, in-any, map-in, in-map}
-use Rattle.lists.proofs.CountsAlike.{counts-append, counts-reverse, counts-keep, counts-sum, counts-zero, counts-map}
+use Rattle.lists.proofs.Occurrences.{empty-nothing, not-empty, empty-nil, kept-in, in-kept, reverse-in, in-reverse, any-in, in-any, map-in}
+use Rattle.lists.proofs.CountsAlike.{counts-reverse, counts-sum, counts-zero, counts-map}
 use Rattle.lists.proofs.Sharing.{Apart, Within, meets-apart, apart-meets, one-apart, all-within}
 use Rattle.blocks.specs.Blocks.{BlockEquation, Block}
 use Rattle.blocks.specs.BlockSets.{allCells, allEquations}
@@ -82,7 +82,7 @@ module _ (b : Block) where
 
   pub equation-part : (c : ℕ) {e : BlockEquation} → List·Memᴰ e (b .equations) → meets (e .cells) (around c) ≡ true → List·Memᴰ (turned e) (part b (around c) .equations)
   equation-part c {e} m t =
-      in-map turned (reverse (keep (λ (y : BlockEquation). meets (y .cells) (around c)) (b .equations)))
+      Memᴰ·map turned
       (in-reverse (keep (λ (y : BlockEquation). meets (y .cells) (around c)) (b .equations)) (in-kept (λ (y : BlockEquation). meets (y .cells) (around c)) (b .equations) m t))
 
   pub own-is : (c : ℕ) (q : Block) → List·Memᴰ q (own c) → (q ≡ part b (around c)) × (empty (part b (around c) .equations) ≡ false)
@@ -188,7 +188,7 @@ module _ (b : Block) where
       omega (
         arith,
         ap (count f) (cells-append (own c) (parts b k (others c l))),
-        counts-append f (allCells (own c)) (allCells (parts b k (others c l))),
+        count-append f (allCells (own c)) (allCells (parts b k (others c l))),
         own-cells f c l h,
         parts-cells f k (others c l) (omega (arith, others-few c l)) (others-full c l h),
         count-split g (has (around c)) (c ∷ l),
@@ -209,7 +209,7 @@ module _ (b : Block) where
       let kept = keep (λ (e : BlockEquation). meets (e .cells) (around c)) (b .equations) in
       counts-map g turned (reverse kept)
       ∙ counts-reverse (λ e. g (turned e)) kept
-      ∙ counts-keep (λ e. g (turned e)) (λ (e : BlockEquation). meets (e .cells) (around c)) (b .equations)
+      ∙ count-kept (λ e. g (turned e)) (λ (e : BlockEquation). meets (e .cells) (around c)) (b .equations)
 
   -- an equation of the block goes to this part, or to one of the others, or to none
   one-part : (c : ℕ) (l : List ℕ) (e : BlockEquation) (t : Bool) → List·Memᴰ e (b .equations)
@@ -265,7 +265,7 @@ module _ (b : Block) where
       omega (
         arith,
         ap (count g) (equations-append (own c) (parts b k (others c l))),
-        counts-append g (allEquations (own c)) (allEquations (parts b k (others c l))),
+        count-append g (allEquations (own c)) (allEquations (parts b k (others c l))),
         ap (count g) (own-equations c),
         part-count g c,
         parts-equations g k (others c l) (omega (arith, others-few c l)),

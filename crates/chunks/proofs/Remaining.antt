@@ -2,7 +2,7 @@
 -- place on; and the blocks of a set before a place, split anew. Each law says what the next turn puts, or that there is nothing left. Assumes nothing.
 use mathlib.Core.Path.{_≡_, refl, sym, ap, _∙_}
 use mathlib.Core.Bool.{Bool, true, false, not, cond, _&&_, _||_}
-use mathlib.Core.List.{List, [], _∷_, _++_, map, List·Memᴰ}
+use mathlib.Core.List.{List, [], _∷_, _++_, map, List·Memᴰ, Memᴰ·map}
 use Prim.Native.Nat.{ℕ, zero, suc, _+_, _-_, _*_, _≤_, _<_}
 use native.Mathlib.Omega.{arith}
 use lib.Dec.{eqb}
@@ -15,7 +15,7 @@ use Rattle.lists.proofs.Counts.{length-keep, count-le}
 use Rattle.lists.proofs.Elements.{replicate-all}
 use Rattle.lists.proofs.Kept.{keep-all, keep-both}
 use Rattle.lists.proofs.Rearranged.{length-range}
-use Rattle.lists.proofs.Occurrences.{keep-agree, map-in, in-map}
+use Rattle.lists.proofs.Occurrences.{keep-agree, map-in}
 use Rattle.lists.proofs.Unions.{has-mem, mem-has}
 use Rattle.blocks.specs.Blocks.{BlockEquation, Block}
 use Rattle.blocks.specs.BlockSets.{before, slotCells}
@@ -102,7 +102,7 @@ cells-later cells first i end h d t =
     let (k, m, w) = map-in (λ (x : ℕ). getD cells x 0) (range i (end - i)) (has-mem (map (λ (x : ℕ). getD cells x 0) (range i (end - i))) d t) in
     let (l, u) = range-in i (end - i) k (mem-has (range i (end - i)) m) in
     rw w (mem-has (map (λ (x : ℕ). getD cells x 0) (range first (end - first)))
-    (in-map (λ (x : ℕ). getD cells x 0) (range first (end - first)) (has-mem (range first (end - first)) k (in-range first (end - first) k (omega arith) (omega arith)))))
+    (Memᴰ·map (λ (x : ℕ). getD cells x 0) (has-mem (range first (end - first)) k (in-range first (end - first) k (omega arith) (omega arith)))))
 
 module _ (done cells : List ℕ) (i end c : ℕ) (h : i < end) (at : c ≡ getD cells i 0) where
   more : cellsFrom cells i end ≡ c ∷ cellsFrom cells (i + 1) end

@@ -12,7 +12,9 @@ use borrow.Author.Tests.{eqb-true, eq-eqb}
 use Rattle.lists.specs.Lists.{count, all, empty}
 use Rattle.lists.proofs.Tests.{Decided, decided}
 use Rattle.lists.proofs.Occurrences.{map-in}
-use Rattle.lists.proofs.CountsAlike.{counts-length, all-counts, all-reverse}
+use Rattle.lists.proofs.CountsAlike.{all-counts}
+use Rattle.lists.proofs.Rearranged.{count-all}
+use Rattle.lists.proofs.All.{all-reverse}
 use Rattle.blocks.specs.Blocks.{BlockEquation, Block}
 use Rattle.blocks.specs.BlockSets.{allCells, allEquations, smallEquation, Small}
 use Rattle.chunks.specs.Chunks.{parts, alone, chunkMatrix, chunkMatrixes}
@@ -72,9 +74,9 @@ small-turned e = rw (length-reverse (e .cells), all-reverse (λ c. ltb c 1024) (
 pub chunk-small : (bs : List Block) → Small bs → Small (chunkMatrixes bs)
 chunk-small bs s =
     let cells : length (allCells (chunkMatrixes bs)) ≤ length (allCells bs) =
-    omega (arith, counts-length (allCells (chunkMatrixes bs)), counts-length (allCells bs), chunks-cells-fewer (λ _. true) bs) in
+    omega (arith, count-all (allCells (chunkMatrixes bs)), count-all (allCells bs), chunks-cells-fewer (λ _. true) bs) in
     let equations : length (allEquations (chunkMatrixes bs)) ≤ length (allEquations bs) =
-    omega (arith, counts-length (allEquations (chunkMatrixes bs)), counts-length (allEquations bs), chunks-fewer-equations (λ _. true) (λ e. refl) bs) in
+    omega (arith, count-all (allEquations (chunkMatrixes bs)), count-all (allEquations bs), chunks-fewer-equations (λ _. true) (λ e. refl) bs) in
     record {
       few-cells = omega (arith, s .few-cells);
       few-equations = omega (arith, s .few-equations);

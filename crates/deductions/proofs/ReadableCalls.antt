@@ -19,12 +19,12 @@ use Rattle.refusals.specs.Tests.{deductionTested}
 use Rattle.refusals.proofs.Accepted.{AcceptedDeduction, accepted-deduction}
 use Rattle.blocks.specs.Blocks.{Block}
 use Rattle.blocks.specs.BlockSets.{Small}
-use Rattle.blocks.proofs.Behind.{set-whole}
+use Rattle.blocks.proofs.Behind.{set-whole, none-fits}
 use Rattle.frontier.specs.Frontier.{frontier}
 use Rattle.frontier.proofs.ReadFrontier.{frontier-fits}
 use Rattle.rules.specs.Found.{Found, contradicted, found}
 use Rattle.rules.proofs.Soundness.{listed-few}
-use Rattle.rules.proofs.LeftFits.{none-fits, direct-left-fits}
+use Rattle.rules.proofs.LeftFits.{direct-left-fits}
 use Rattle.subtraction.proofs.LeftFits.{subtraction-left-fits}
 use Rattle.solutions.specs.Enumeration.{safeCells, mineCells, unsolvable, enumerated}
 use Rattle.deductions.specs.Answers.{refusedAnswer, refused, afterFound, afterTests, deduction}

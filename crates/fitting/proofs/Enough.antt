@@ -14,7 +14,7 @@ use Rattle.lists.proofs.Counts.{count-le}
 use Rattle.grid.specs.Cells.{cellOf, shows}
 use Rattle.fitting.specs.Layouts.{Fits}
 use Rattle.fitting.specs.Boards.{own, Accepted}
-use Rattle.fitting.specs.Passes.{Found, nothing, flood, openCells, pass, allOpen, passes}
+use Rattle.fitting.specs.Passes.{GradedCells, nothing, flood, openCells, pass, allOpen, passes}
 use Rattle.fitting.specs.Rules.{Sound}
 use Rattle.fitting.proofs.Layouts.{on-board}
 use Rattle.fitting.proofs.Steps.{closed, closed-less, pass-less}
@@ -75,7 +75,7 @@ openCells-ends near b p cs k ok few long h =
 
 -- ---- the passes: each leaves fewer closed cells
 
-module _ (near : ℕ → List ℕ) (b : List ℕ) (rule : List ℕ → Found) (ok : Accepted near b) (sound : Sound near b rule) where
+module _ (near : ℕ → List ℕ) (b : List ℕ) (rule : List ℕ → GradedCells) (ok : Accepted near b) (sound : Sound near b rule) where
   -- where no cell is closed, a pass finds nothing
   none-left : (j : ℕ) (p : List ℕ) (grade rounds : ℕ) → Fits near p (own b) → closed p ≤ 0
       → passes near b rule zero p grade rounds ≡ passes near b rule (suc j) p grade rounds

@@ -16,7 +16,7 @@ use Rattle.fitting.specs.Layouts.{freeInEvery}
 use Rattle.fitting.specs.Boards.{Accepted}
 use Rattle.fitting.specs.Demand.{picture, opened, Demand3}
 use Rattle.fitting.specs.Equations.{isClosed}
-use Rattle.fitting.specs.Passes.{Found, judge}
+use Rattle.fitting.specs.Passes.{GradedCells, judge}
 use Rattle.fitting.specs.Rules.{Sound, Complete}
 use Rattle.fitting.proofs.Layouts.{on-board}
 use Rattle.fitting.proofs.Decision.{free-forced, not-free}
@@ -27,7 +27,7 @@ abbrev pub closedFree : (ℕ → List ℕ) → List ℕ → ℕ → Bool
 closedFree near p c = isClosed p c && freeInEvery near p c
 
 -- the rule: all such cells, and no mines
-abbrev pub exhaustive : (ℕ → List ℕ) → List ℕ → Found
+abbrev pub exhaustive : (ℕ → List ℕ) → List ℕ → GradedCells
 exhaustive near p = record { safe = keep (closedFree near p) (range 0 (length p)); mines = []; grade = 3 }
 
 -- it is sound

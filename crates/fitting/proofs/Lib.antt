@@ -10,7 +10,6 @@ pub mod Blocks
 pub mod Groups
 -- demand 3 of every judge: its runs, the solver, the two halves of the proof, and the theorem
 pub mod Own
-pub mod Admitted
 pub mod Runs
 pub mod Solver
 pub mod Covers

@@ -18,7 +18,7 @@ use Rattle.fitting.specs.Layouts.{Fits}
 use Rattle.fitting.specs.Boards.{own, Accepted, AllOpen}
 use Rattle.fitting.specs.Solver.{first}
 use Rattle.fitting.specs.Demand.{picture, opened, Demand3}
-use Rattle.fitting.specs.Passes.{Found, nothing, pass, allOpen, Ending, passes, judge}
+use Rattle.fitting.specs.Passes.{GradedCells, nothing, pass, allOpen, Ending, passes, judge}
 use Rattle.fitting.specs.Rules.{Sound, Complete}
 use Rattle.fitting.proofs.Layouts.{on-board}
 use Rattle.fitting.proofs.Own.{fit-length, first-own}
@@ -53,14 +53,14 @@ begin-closed near b s ok l n =
     omega (arith, count-le (λ v. eqb v 10) (beginning near b s), fit-length near b (beginning near b s) (begin-own near b s ok l n))
 
 -- and it fits after a pass, if it did before
-pub pass-own : (near : ℕ → List ℕ) (b : List ℕ) (rule : List ℕ → Found) (p : List ℕ) → Accepted near b → Sound near b rule
+pub pass-own : (near : ℕ → List ℕ) (b : List ℕ) (rule : List ℕ → GradedCells) (p : List ℕ) → Accepted near b → Sound near b rule
     → Fits near p (own b) → Fits near (pass near b p (rule p)) (own b)
 pass-own near b rule p ok sound fit = run-own near b ok fit (pass-run near b ok rule sound p fit)
 
 -- ---- how the passes end
 
 -- the ending of a pass that finds a cell and of at most k passes more
-abbrev pub passesOn : (ℕ → List ℕ) → List ℕ → (List ℕ → Found) → ℕ → List ℕ → ℕ → ℕ → Ending
+abbrev pub passesOn : (ℕ → List ℕ) → List ℕ → (List ℕ → GradedCells) → ℕ → List ℕ → ℕ → ℕ → Ending
 passesOn near b rule k p grade rounds = passes near b rule k (pass near b p (rule p)) (max grade (rule p .grade)) (rounds + 1)
 
 -- the passes are at their end: all safe cells are open or the frontier is stuck, and the answer says which
@@ -68,7 +68,7 @@ abbrev Ended : (ℕ → List ℕ) → List ℕ → Ending → Type 0
 Ended near b e = (AllOpen b (e .position) ⊎ Stuck near (e .position)) × ((e .yes ≡ true) ↔ AllOpen b (e .position))
 
 -- as many passes as there are closed cells are enough for that
-passes-end : (near : ℕ → List ℕ) (b : List ℕ) (rule : List ℕ → Found) → Accepted near b → Sound near b rule → Complete near b rule
+passes-end : (near : ℕ → List ℕ) (b : List ℕ) (rule : List ℕ → GradedCells) → Accepted near b → Sound near b rule → Complete near b rule
     → (k : ℕ) (p : List ℕ) (grade rounds : ℕ) → Fits near p (own b) → closed p ≤ k → Ended near b (passes near b rule k p grade rounds)
 passes-end near b rule ok sound complete zero p grade rounds fit h = (
   inr (λ c d e _ _. absurd (omega (arith, closed-less p c 0 e (on-board p c (omega arith)) (omega arith)))),
@@ -87,7 +87,7 @@ passes-end near b rule ok sound complete (suc k) p grade rounds fit h =
     go (inr a) (inr e) later = rw (a, e) (later e)
 
 -- a claim about a position, a grade and rounds is kept by each pass that finds a cell
-abbrev pub Keeps : (ℕ → List ℕ) → List ℕ → (List ℕ → Found) → (List ℕ → ℕ → ℕ → Type 0) → Type 0
+abbrev pub Keeps : (ℕ → List ℕ) → List ℕ → (List ℕ → GradedCells) → (List ℕ → ℕ → ℕ → Type 0) → Type 0
 Keeps near b rule Claim = (p : List ℕ) (grade rounds : ℕ) → nothing (rule p) ≡ false → Claim p grade rounds
     → Claim (pass near b p (rule p)) (max grade (rule p .grade)) (rounds + 1)
 
@@ -96,7 +96,7 @@ abbrev pub AtEnd : (List ℕ → ℕ → ℕ → Type 0) → Ending → Type 0
 AtEnd Claim e = Claim (e .position) (e .grade) (e .rounds)
 
 -- what each pass keeps, the ending has
-pub passes-keep : (near : ℕ → List ℕ) (b : List ℕ) (rule : List ℕ → Found) (Claim : List ℕ → ℕ → ℕ → Type 0) → Keeps near b rule Claim
+pub passes-keep : (near : ℕ → List ℕ) (b : List ℕ) (rule : List ℕ → GradedCells) (Claim : List ℕ → ℕ → ℕ → Type 0) → Keeps near b rule Claim
     → (k : ℕ) (p : List ℕ) (grade rounds : ℕ) → Claim p grade rounds → AtEnd Claim (passes near b rule k p grade rounds)
 passes-keep near b rule Claim keeps zero p grade rounds h = h
 passes-keep near b rule Claim keeps (suc k) p grade rounds h =
@@ -110,7 +110,7 @@ passes-keep near b rule Claim keeps (suc k) p grade rounds h =
     go (inr a) (inr e) later = rw (a, e) (later e)
 
 -- the board's own layout fits where the passes end
-pub judge-own : (near : ℕ → List ℕ) (b : List ℕ) (rule : List ℕ → Found) (s : ℕ) → Accepted near b → s < length b → cellOf b s ≢ 255
+pub judge-own : (near : ℕ → List ℕ) (b : List ℕ) (rule : List ℕ → GradedCells) (s : ℕ) → Accepted near b → s < length b → cellOf b s ≢ 255
     → Sound near b rule → Fits near (judge near b rule s .position) (own b)
 unfolding judge
 judge-own near b rule s ok l n sound =
@@ -120,7 +120,7 @@ judge-own near b rule s ok l n sound =
 -- ---- demand 3
 
 -- demand 3 of the passes over any rule that is sound and complete
-pub judge-demand-3 : (near : ℕ → List ℕ) (b : List ℕ) (rule : List ℕ → Found) (s : ℕ) → Accepted near b → s < length b → cellOf b s ≢ 255
+pub judge-demand-3 : (near : ℕ → List ℕ) (b : List ℕ) (rule : List ℕ → GradedCells) (s : ℕ) → Accepted near b → s < length b → cellOf b s ≢ 255
     → Sound near b rule → Complete near b rule
     → Demand3 near b s (judge near b rule s .yes) (opened (judge near b rule s .position)) (picture (judge near b rule s .position))
 unfolding judge
@@ -136,7 +136,7 @@ judge-demand-3 near b rule s ok l n sound complete =
     })
 
 -- so what the rules are, and in what order they find cells, makes no difference to verdict, count and picture
-pub rules-agree : (near : ℕ → List ℕ) (b : List ℕ) (rule other : List ℕ → Found) (s : ℕ) → Accepted near b → s < length b → cellOf b s ≢ 255
+pub rules-agree : (near : ℕ → List ℕ) (b : List ℕ) (rule other : List ℕ → GradedCells) (s : ℕ) → Accepted near b → s < length b → cellOf b s ≢ 255
     → Sound near b rule → Complete near b rule → Sound near b other → Complete near b other
     → (judge near b rule s .yes ≡ judge near b other s .yes)
     × (opened (judge near b rule s .position) ≡ opened (judge near b other s .position))
@@ -150,7 +150,7 @@ rules-agree near b rule other s ok l n sound complete sound-other complete-other
 -- ---- rounds and grade
 
 -- each round leaves fewer closed cells, so that rounds never exceed the cells
-pub rounds-cells : (near : ℕ → List ℕ) (b : List ℕ) (rule : List ℕ → Found) (s : ℕ) → Accepted near b → s < length b → cellOf b s ≢ 255
+pub rounds-cells : (near : ℕ → List ℕ) (b : List ℕ) (rule : List ℕ → GradedCells) (s : ℕ) → Accepted near b → s < length b → cellOf b s ≢ 255
     → Sound near b rule → judge near b rule s .rounds ≤ length b
 unfolding judge
 rounds-cells near b rule s ok l n sound = omega (arith, kept .1)
@@ -164,7 +164,7 @@ rounds-cells near b rule s ok l n sound = omega (arith, kept .1)
         (length b) (beginning near b s) 0 0 (begin-own near b s ok l n, omega (arith, begin-closed near b s ok l n))
 
 -- the grade is at most the greatest with which the rule finds a cell
-pub grade-bound : (near : ℕ → List ℕ) (b : List ℕ) (rule : List ℕ → Found) (s g : ℕ)
+pub grade-bound : (near : ℕ → List ℕ) (b : List ℕ) (rule : List ℕ → GradedCells) (s g : ℕ)
     → ((p : List ℕ) → nothing (rule p) ≡ false → rule p .grade ≤ g) → judge near b rule s .grade ≤ g
 unfolding judge
 grade-bound near b rule s g h =

@@ -10,11 +10,11 @@ use Rattle.lists.proofs.Tests.{Decided, decided, clash}
 use Rattle.grid.specs.Cells.{shows}
 use Rattle.fitting.specs.Layouts.{Fits, Forced}
 use Rattle.fitting.specs.Boards.{own}
-use Rattle.fitting.specs.Passes.{Found, nothing, orElse}
+use Rattle.fitting.specs.Passes.{GradedCells, nothing, orElse}
 use Rattle.fitting.specs.Rules.{Sound, Complete}
 
 -- the answer is that of one of the two
-chosen : (rule other : List ℕ → Found) (p : List ℕ) → (orElse rule other p ≡ rule p) ⊎ (orElse rule other p ≡ other p)
+chosen : (rule other : List ℕ → GradedCells) (p : List ℕ) → (orElse rule other p ≡ rule p) ⊎ (orElse rule other p ≡ other p)
 unfolding orElse
 chosen rule other p = go (decided (nothing (rule p)))
   where
@@ -23,7 +23,7 @@ chosen rule other p = go (decided (nothing (rule p)))
     go (inr e) = inl (rw (e, orElse))
 
 -- sound, if both are
-pub sound-orElse : (near : ℕ → List ℕ) (b : List ℕ) (rule other : List ℕ → Found)
+pub sound-orElse : (near : ℕ → List ℕ) (b : List ℕ) (rule other : List ℕ → GradedCells)
     → Sound near b rule → Sound near b other → Sound near b (orElse rule other)
 sound-orElse near b rule other x y = record { safe = λ p f c. safe p f c (chosen rule other p); mines = λ p f c. mines p f c (chosen rule other p) }
   where
@@ -38,7 +38,7 @@ sound-orElse near b rule other x y = record { safe = λ p f c. safe p f c (chose
     mines p f c (inr e) = rw e (y .mines p f c)
 
 -- complete, if the second is
-pub complete-orElse : (near : ℕ → List ℕ) (b : List ℕ) (rule other : List ℕ → Found) → Complete near b other → Complete near b (orElse rule other)
+pub complete-orElse : (near : ℕ → List ℕ) (b : List ℕ) (rule other : List ℕ → GradedCells) → Complete near b other → Complete near b (orElse rule other)
 unfolding orElse
 complete-orElse near b rule other w = record { witness = λ p f n. w .witness p f (last p n (decided (nothing (rule p)))) }
   where

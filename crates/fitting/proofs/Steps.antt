@@ -19,7 +19,7 @@ use Rattle.grid.specs.Cells.{cellOf, shows}
 use Rattle.fitting.specs.Layouts.{mineAt, Fits, Forced}
 use Rattle.fitting.specs.Boards.{own, Accepted}
 use Rattle.fitting.specs.Solver.{first}
-use Rattle.fitting.specs.Passes.{Found, nothing, flood, openCells, markMines, pass}
+use Rattle.fitting.specs.Passes.{GradedCells, nothing, flood, openCells, markMines, pass}
 use Rattle.fitting.specs.Rules.{Sound}
 use Rattle.fitting.proofs.Layouts.{on-board, mine-on-board, fits-marked}
 use Rattle.fitting.proofs.Frontier.{zero-forced}
@@ -183,7 +183,7 @@ module _ (near : ℕ → List ℕ) (b : List ℕ) (ok : Accepted near b) where
       let u = flood-run (length ss + 9 * length b) (markMines p (c ∷ ms)) ss f (λ d e m k. safe d e .1 m (run-back near b ok fit r m k)) in
       omega (arith, run-closed (markMines p (c ∷ ms)) f u, mark-less p c ms fit t (mines c (has-head c ms) .0))
 
-  module _ (rule : List ℕ → Found) (sound : Sound near b rule) (p : List ℕ) (fit : Fits near p (own b)) where
+  module _ (rule : List ℕ → GradedCells) (sound : Sound near b rule) (p : List ℕ) (fit : Fits near p (own b)) where
     -- a pass is a run
     pub pass-run : Run near b p (pass near b p (rule p))
     unfolding pass

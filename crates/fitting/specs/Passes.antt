@@ -9,16 +9,16 @@ use Rattle.lists.specs.Lists.{every, empty}
 use Rattle.grid.specs.Cells.{cellOf, shows}
 
 -- what a rule finds at a position: cells that are safe, cells that are mines, and the rule's grade (1 direct, 2 subtraction, 3 enumeration)
-pub record Found : Type 0 where
+pub record GradedCells : Type 0 where
   pub safe : List ℕ
   pub mines : List ℕ
   pub grade : ℕ
 
-abbrev pub nothing : Found → Bool
+abbrev pub nothing : GradedCells → Bool
 nothing f = empty (f .safe) && empty (f .mines)
 
 -- the second rule where the first finds nothing
-unfoldable pub orElse : (List ℕ → Found) → (List ℕ → Found) → List ℕ → Found
+unfoldable pub orElse : (List ℕ → GradedCells) → (List ℕ → GradedCells) → List ℕ → GradedCells
 orElse rule other p = cond (nothing (rule p)) (other p) (rule p)
 
 -- opens the cells of a list in turn: a closed one gets the board's number, and the neighbours of a 0 come next; k is how many to take from the list
@@ -40,7 +40,7 @@ markMines p [] = p
 markMines p (c ∷ cs) = markMines (set p c 11) cs
 
 -- what a pass makes of a position
-unfoldable pub pass : (ℕ → List ℕ) → List ℕ → List ℕ → Found → List ℕ
+unfoldable pub pass : (ℕ → List ℕ) → List ℕ → List ℕ → GradedCells → List ℕ
 pass near b p f = openCells near b (markMines p (f .mines)) (f .safe)
 
 -- every safe cell of the board is open
@@ -58,7 +58,7 @@ abbrev pub ending : Bool → List ℕ → ℕ → ℕ → Ending
 ending answer p grade rounds = record { yes = answer; position = p; grade = grade; rounds = rounds }
 
 -- at most k passes from a position, after so many rounds with that grade
-abbrev pub passes : (ℕ → List ℕ) → List ℕ → (List ℕ → Found) → ℕ → List ℕ → ℕ → ℕ → Ending
+abbrev pub passes : (ℕ → List ℕ) → List ℕ → (List ℕ → GradedCells) → ℕ → List ℕ → ℕ → ℕ → Ending
 passes near b rule zero p grade rounds = ending (allOpen b p) p grade rounds
 passes near b rule (suc k) p grade rounds =
     cond (allOpen b p) (ending true p grade rounds)
@@ -66,5 +66,5 @@ passes near b rule (suc k) p grade rounds =
     (passes near b rule k (pass near b p (rule p)) (max grade (rule p .grade)) (rounds + 1)))
 
 -- the verdict from the start s: as many passes as there are cells are enough, since each lowers the number of closed ones
-unfoldable pub judge : (ℕ → List ℕ) → List ℕ → (List ℕ → Found) → ℕ → Ending
+unfoldable pub judge : (ℕ → List ℕ) → List ℕ → (List ℕ → GradedCells) → ℕ → Ending
 judge near b rule s = passes near b rule (length b) (openCells near b (replicate (length b) 10) (s ∷ [])) 0 0

@@ -7,14 +7,14 @@ use Rattle.lists.specs.Lists.{has}
 use Rattle.grid.specs.Cells.{shows}
 use Rattle.fitting.specs.Layouts.{mineAt, Fits, Forced}
 use Rattle.fitting.specs.Boards.{own}
-use Rattle.fitting.specs.Passes.{Found, nothing}
+use Rattle.fitting.specs.Passes.{GradedCells, nothing}
 
 -- what it finds is closed, and the same in every layout that fits
-pub record Sound (near : ℕ → List ℕ) (b : List ℕ) (rule : List ℕ → Found) : Type 0 where
+pub record Sound (near : ℕ → List ℕ) (b : List ℕ) (rule : List ℕ → GradedCells) : Type 0 where
   pub safe : (p : List ℕ) → Fits near p (own b) → (c : ℕ) → has (rule p .safe) c ≡ true → (shows p c ≡ 10) × Forced near p c false
   pub mines : (p : List ℕ) → Fits near p (own b) → (c : ℕ) → has (rule p .mines) c ≡ true → (shows p c ≡ 10) × Forced near p c true
 
 -- where it finds nothing, each closed cell beside an open one has a mine in some layout that fits
-pub record Complete (near : ℕ → List ℕ) (b : List ℕ) (rule : List ℕ → Found) : Type 0 where
+pub record Complete (near : ℕ → List ℕ) (b : List ℕ) (rule : List ℕ → GradedCells) : Type 0 where
   pub witness : (p : List ℕ) → Fits near p (own b) → nothing (rule p) ≡ true
       → (c d : ℕ) → shows p c ≡ 10 → shows p d ≤ 8 → has (near d) c ≡ true → (m : List Bool) × Fits near p m × (mineAt m c ≡ true)

@@ -14,48 +14,16 @@ use Rattle.lists.proofs.Tests.{Decided, decided}
 use Rattle.lists.proofs.Members.{has-keep, nodup-keep, kept-passes}
 use Rattle.lists.proofs.Counts.{count-le, count-same, length-keep, any-at, any-of}
 use Rattle.lists.proofs.Rearranged.{Rearranged, rearranged-length}
-use Rattle.lists.proofs.Unions.{mem-has, has-mem, mem-joined, joined-mem, has-joined-map, has-addNew, nodup-addNew}
+use Rattle.lists.proofs.Unions.{mem-has, has-mem, has-joined-map, has-addNew, nodup-addNew}
 use Rattle.grid.specs.Cells.{shows}
 use Rattle.fitting.specs.Equations.{Holds, isClosed, isKnownMine, equationAt}
 use Rattle.blocks.specs.Blocks.{BlockEquation, Block, says}
-use Rattle.blocks.specs.BlockSets.{allCells, allEquations}
+use Rattle.blocks.specs.BlockSets.{allEquations}
+use Rattle.blocks.proofs.ProperBlocks.{equation-block, Proper}
 use Rattle.sources.specs.Sources.{closedBeside}
 use Rattle.sources.proofs.ListedSources.{listed-source}
 use Rattle.growth.proofs.Partition.{parts, part-has-sources}
 use Rattle.frontier.specs.Frontier.{equationOf, cellsMet, blockOf, frontier}
-
--- ---- a list of blocks
-
--- an equation of a block is one of all blocks
-pub block-equation : (bs : List Block) (b : Block) (e : BlockEquation)
-    → List·Memᴰ b bs → List·Memᴰ e (b .equations) → List·Memᴰ e (allEquations bs)
-block-equation bs b e m n = mem-joined n (Memᴰ·map (λ (x : Block). x .equations) m)
-
--- back: an equation of all blocks is one of some block
-pub equation-block : (bs : List Block) (e : BlockEquation) → List·Memᴰ e (allEquations bs)
-    → (b : Block) × List·Memᴰ b bs × List·Memᴰ e (b .equations)
-equation-block bs e m =
-    let (es, n, k) = joined-mem (map (λ (b : Block). b .equations) bs) m in
-    let (b, o, w) = Memᴰ·of-map (λ (x : Block). x .equations) bs n in
-    (b, o, rw w k)
-
--- a cell of a block is one of all blocks
-pub block-cell : (bs : List Block) (b : Block) (c : ℕ) → List·Memᴰ b bs → has (b .cells) c ≡ true → has (allCells bs) c ≡ true
-block-cell bs b c m h = mem-has (allCells bs) (mem-joined (has-mem (b .cells) c h) (Memᴰ·map (λ (x : Block). x .cells) m))
-
--- and back
-pub cell-block : (bs : List Block) (c : ℕ) → has (allCells bs) c ≡ true → (b : Block) × List·Memᴰ b bs × (has (b .cells) c ≡ true)
-cell-block bs c h =
-    let (l, n, k) = joined-mem (map (λ (b : Block). b .cells) bs) (has-mem (allCells bs) c h) in
-    let (b, o, w) = Memᴰ·of-map (λ (x : Block). x .cells) bs n in
-    (b, o, rw w (mem-has l k))
-
--- a block as it should be: none of its cells stands twice, in the block or in an equation, and its cells are those of its equations
-pub record Proper (b : Block) : Type 0 where
-  pub once : nodup (b .cells) ≡ true
-  pub equations-once : (e : BlockEquation) → List·Memᴰ e (b .equations) → nodup (e .cells) ≡ true
-  pub within : (e : BlockEquation) → List·Memᴰ e (b .equations) → (c : ℕ) → has (e .cells) c ≡ true → has (b .cells) c ≡ true
-  pub covered : (c : ℕ) → has (b .cells) c ≡ true → (e : BlockEquation) × List·Memᴰ e (b .equations) × (has (e .cells) c ≡ true)
 
 -- where an equation of the frontier comes from: a source in a part of the sources
 pub record Origin (near : ℕ → List ℕ) (p : List ℕ) (e : BlockEquation) : Type 0 where

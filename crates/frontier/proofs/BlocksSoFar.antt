@@ -1,7 +1,7 @@
 -- The blocks of a position, read one after another: the struct holds the blocks done, which with the blocks of the sources left are the whole frontier.
 -- One block more: it grows from the first source left, its cells and equations go behind those of the blocks done, and the other sources go on. What is
 -- written is a beginning of the frontier, which fits into the struct, so there is always room. Rests on the laws of written blocks, of slots that are read,
--- and of room. Assumes nothing.
+-- and of blocks put behind others. Assumes nothing.
 use mathlib.Core.Path.{_≡_, refl, sym, ap, _∙_}
 use mathlib.Core.Bool.{Bool, true, _&&_}
 use mathlib.Core.List.{List, [], _∷_, _++_, map, append-nil, append-assoc}
@@ -13,8 +13,9 @@ use lib.Seq.{sets, length-take-le}
 use borrow.Author.Tests.{le-ltb}
 use Rattle.lists.specs.Lists.{all, has, addNew, joined, rotated}
 use Rattle.lists.proofs.All.{all-has, all-rotated}
-use Rattle.lists.proofs.Arrays.{length-pad, pad-nil, pad-take}
+use Rattle.lists.proofs.Arrays.{pad-nil, pad-take}
 use Rattle.lists.proofs.Elements.{replicate-all}
+use Rattle.lists.proofs.Joined.{pad-sets}
 use Rattle.lists.proofs.Counted.{counted-more, counted-none}
 use Rattle.grid.specs.Cells.{shows}
 use Rattle.grid.specs.Window.{neighbours, Board}
@@ -23,9 +24,8 @@ use Rattle.refusals.proofs.Accepted.{few-cells}
 use Rattle.blocks.specs.Blocks.{BlockEquation, Block}
 use Rattle.blocks.specs.declared.BlockSet.{BlockSet}
 use Rattle.blocks.specs.BlockSets.{allCells, allEquations, slotsOf, slotCells, Small, blockSet}
-use Rattle.blocks.proofs.Slots.{length-all-slots}
 use Rattle.blocks.proofs.Filling.{cells-push, equations-push}
-use Rattle.blocks.proofs.Room.{Room, room-next, block-stored}
+use Rattle.blocks.proofs.Behind.{small-first, full-slots, full-rests, block-fits, cells-fit, equations-fit, put-block}
 use Rattle.sources.specs.Sources.{closedBeside, sources, shares}
 use Rattle.sources.specs.Reading.{Read, slotsMeet, Cells}
 use Rattle.sources.specs.Equations.{restAt}
@@ -218,8 +218,11 @@ module _ (edgeless : Bool) {rows columns : ℕ} {p beside list : List ℕ} {len 
         whole-next : b .done ++ (next ∷ map (blockOf near p) (blockSources (slotsMeet beside) (b .bound - 1) rest)) ≡ frontier near p
         whole-next = ap (λ (ls : List (List ℕ)). b .done ++ map (blockOf near p) ls) (sym parts-next) ∙ b .whole
 
-        room : Room (b .done) next
-        room = room-next (b .done) next (map (blockOf near p) (blockSources (slotsMeet beside) (b .bound - 1) rest)) (rw whole-next fits)
+        -- which fits, so there is room for the block
+        next-small : Small (b .done ++ (next ∷ []))
+        next-small =
+            small-first (b .done ++ (next ∷ [])) (map (blockOf near p) (blockSources (slotsMeet beside) (b .bound - 1) rest))
+            (rw (append-assoc (b .done) (next ∷ []) (map (blockOf near p) (blockSources (slotsMeet beside) (b .bound - 1) rest)), whole-next) fits)
 
         cells-same : addNew [] (joined (map (slotCells beside) part)) ≡ next .cells
         cells-same = cells-written near p beside part part-held
@@ -231,17 +234,11 @@ module _ (edgeless : Bool) {rows columns : ℕ} {p beside list : List ℕ} {len 
         unfolding blockSet
         next-fits = record {
           some = some-found;
-          slots-long =
-              rw (b .held)
-              (length-pad 8192 65535 (joined (map slotsOf (allEquations (b .done))))
-              (omega (arith, length-all-slots (allEquations (b .done)) (room .small), room .equations)));
-          rests-long =
-              rw (b .held)
-              (length-pad 1024 0 (map (λ (x : BlockEquation). x .rest) (allEquations (b .done)))
-              (omega (arith, length-map (allEquations (b .done)) (λ (x : BlockEquation). x .rest), room .equations)));
-          cells-room = rw cells-same (omega (arith, room .cells, b .cells-counted));
-          equations-room = omega (arith, room .equations, b .equations-counted, length-equations);
-          block-room = rw (b .held) (room .block);
+          slots-long = full-slots s (b .done) (b .held) (small-first (b .done) (next ∷ []) next-small);
+          rests-long = full-rests s (b .done) (b .held) (small-first (b .done) (next ∷ []) next-small);
+          cells-room = rw cells-same (omega (arith, cells-fit (b .done) next next-small, b .cells-counted));
+          equations-room = omega (arith, equations-fit (b .done) next next-small, b .equations-counted, length-equations);
+          block-room = rw (b .held) (block-fits (b .done) next next-small);
           are-open = all-open edgeless board read part part-sources;
         }
 
@@ -257,6 +254,12 @@ module _ (edgeless : Bool) {rows columns : ℕ} {p beside list : List ℕ} {len 
           cells-before : take k cells′ ≡ allCells (b .done)
           unfolding blockSet
           cells-before = kept ∙ rw (b .held, b .cells-counted) (pad-take 1024 0 (allCells (b .done)))
+
+          cells-set : cells′ ≡ sets (s .cells) (length (allCells (b .done))) (next .cells)
+          unfolding blockSet
+          cells-set =
+              cells-joined placed (allCells (b .done)) (next .cells) cells-before (added ∙ cells-same)
+              ∙ rw (b .held) (sym (pad-sets 1024 0 (allCells (b .done)) (next .cells) (cells-fit (b .done) next next-small)))
 
           cells-now : k′ ≡ length (allCells (b .done)) + length (next .cells)
           cells-now = cells-end placed (next .cells) (added ∙ cells-same) ∙ ap (λ (i : ℕ). i + length (next .cells)) (b .cells-counted)
@@ -285,16 +288,7 @@ module _ (edgeless : Bool) {rows columns : ℕ} {p beside list : List ℕ} {len 
           unfolding blockSet
           one-more = record {
             done = b .done ++ (next ∷ []);
-            held =
-                rw (
-                  cells-joined placed (allCells (b .done)) (next .cells) cells-before (added ∙ cells-same),
-                  cells-now,
-                  equations-now,
-                  slots-now,
-                  rests-now,
-                  b .held,
-                )
-                (block-stored (b .done) next room);
+            held = rw (cells-set, cells-now, equations-now, slots-now, rests-now) (put-block s (b .done) next (b .held) next-small);
             cells-counted = cells-now ∙ sym (ap length (cells-push (b .done) next) ∙ length-append (allCells (b .done)) (next .cells));
             equations-counted = equations-now ∙ sym (ap length (equations-push (b .done) next) ∙ length-append (allEquations (b .done)) (next .equations));
             placed = placed-none placed;

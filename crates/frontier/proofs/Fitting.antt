@@ -16,29 +16,17 @@ use Rattle.lists.proofs.Members.{empty-none, kept-passes}
 use Rattle.lists.proofs.Unions.{meets-of}
 use Rattle.grid.specs.Cells.{shows}
 use Rattle.fitting.specs.Layouts.{mineAt, Fits, Forced}
-use Rattle.fitting.specs.Equations.{Equation, Holds, equationAt}
-use Rattle.fitting.proofs.Equations.{Solution}
+use Rattle.fitting.specs.Equations.{Holds, equationAt}
 use Rattle.fitting.proofs.Frontier.{layoutOf, layout-at, fits-holds}
 use Rattle.fitting.proofs.Blocks.{Around, part-fits}
 use Rattle.blocks.specs.Blocks.{BlockEquation, Block, says}
 use Rattle.blocks.specs.BlockSets.{allEquations}
+use Rattle.blocks.proofs.ProperBlocks.{block-equation, Solves}
 use Rattle.sources.specs.Sources.{closedBeside, isSource, sources}
 use Rattle.sources.proofs.ListedSources.{source-listed}
 use Rattle.growth.proofs.Partition.{parts, part-has-sources, sharing-together}
 use Rattle.frontier.specs.Frontier.{equationOf, cellsMet, blockOf, frontier}
-use Rattle.frontier.proofs.BlockLaws.{block-equation, block-cell-source, source-block-cell, block-closed, source-equation, equation-says, frontier-part, Origin, equation-origin}
-
--- the equations of a block, each with its place, as a family
-abbrev pub EquationIn : Block → Type 0
-EquationIn b = (e : BlockEquation) × List·Memᴰ e (b .equations)
-
--- what each says
-abbrev pub saysIn : (b : Block) → EquationIn b → Equation
-saysIn b i = says (i .0)
-
--- mines placed as f says solve every equation of a block
-abbrev pub Solves : (ℕ → Bool) → Block → Type 0
-Solves f b = Solution (saysIn b) f
+use Rattle.frontier.proofs.BlockLaws.{block-cell-source, source-block-cell, block-closed, source-equation, equation-says, frontier-part, Origin, equation-origin}
 
 -- they solve the equation of each open cell with a closed neighbour
 abbrev pub SolvesSources : (ℕ → List ℕ) → List ℕ → (ℕ → Bool) → Type 0

@@ -17,13 +17,14 @@ use Rattle.lists.proofs.TurnedRound.{nodup-apart}
 use Rattle.grid.specs.Cells.{shows}
 use Rattle.blocks.specs.Blocks.{Block}
 use Rattle.blocks.specs.BlockSets.{allCells}
+use Rattle.blocks.proofs.ProperBlocks.{Proper, block-cell, block-equation, Solves}
 use Rattle.sources.specs.Sources.{closedBeside, isSource, sources}
 use Rattle.sources.proofs.ListedSources.{source-listed}
 use Rattle.growth.proofs.Partition.{source-in-part}
 use Rattle.frontier.specs.Frontier.{equationOf, cellsMet, blockOf, frontier}
-use Rattle.frontier.proofs.BlockLaws.{Proper, block-cell, block-equation, source-equation, equation-says, frontier-proper}
+use Rattle.frontier.proofs.BlockLaws.{source-equation, equation-says, frontier-proper}
 use Rattle.frontier.proofs.Coverage.{frontier-once}
-use Rattle.frontier.proofs.Fitting.{Solves, SolvesSources, sources-solve}
+use Rattle.frontier.proofs.Fitting.{SolvesSources, sources-solve}
 
 -- mines placed as f says solve each of some blocks
 abbrev pub SolvesEach : (ℕ → Bool) → List Block → Type 0

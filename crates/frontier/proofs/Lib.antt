@@ -5,6 +5,8 @@ pub mod BlockLaws
 pub mod Coverage
 -- what a layout that fits, and a solution of a block, say of each other
 pub mod Fitting
+-- its blocks have what the code that groups a block's cells asks for
+pub mod CombinableBlocks
 -- all blocks solved at once
 pub mod JoinedBlocks
 -- the two counts, a block that is written, and one block more

@@ -11,12 +11,11 @@ use Rattle.refusals.specs.declared.Tested.the-variants.{Accepted, Refused}
 use Rattle.refusals.specs.Tests.{positionTested}
 use Rattle.refusals.proofs.Accepted.{accepted-position}
 use Rattle.blocks.specs.BlockSets.{blocksOf, Whole}
-use Rattle.blocks.proofs.Behind.{set-whole}
+use Rattle.blocks.proofs.Behind.{set-whole, none-fits}
 use Rattle.frontier.specs.declared.FrontierAnswer.{FrontierAnswer}
 use Rattle.frontier.specs.Frontier.{frontier}
 use Rattle.frontier.specs.Answer.{answerAfter, refreshMatrixs}
 use Rattle.frontier.proofs.ReadFrontier.{frontier-fits}
-use Rattle.rules.proofs.LeftFits.{none-fits}
 use Rattle.text.specs.Text.{decimal, Written}
 use Rattle.text.proofs.Writing.{written-within, written-both}
 use Rattle.show.specs.Blocks.{blocksText}

@@ -208,3 +208,10 @@ pub fn wide(cell: u16) -> usize
 {
     cell as usize
 }
+
+// A byte as a number.
+pub fn wide_byte(byte: u8) -> usize
+    ensures { λ r. ⌜ (r ≡ byte) × (r < 256) ⌝ }
+{
+    byte as usize
+}

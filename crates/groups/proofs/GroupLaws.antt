@@ -25,7 +25,7 @@ use Rattle.lists.proofs.Among.{among-length, nodup-among}
 use Rattle.lists.proofs.PlacesAndRanges.{mem-place, map-read, nodup-place}
 use Rattle.lists.proofs.PartedLists.{same-equal, same-self, count-one, parted-rearranged}
 use Rattle.blocks.specs.Blocks.{BlockEquation, Block}
-use Rattle.frontier.proofs.BlockLaws.{Proper}
+use Rattle.blocks.proofs.ProperBlocks.{Proper}
 use Rattle.groups.specs.Groups.{noCells, column, alike, firsts, groups, groupOf, sizes}
 use Rattle.groups.specs.Grouping.{Combinable}
 use Rattle.groups.proofs.FirstsOfClasses.{Equivalence, same-equivalence, FirstOf, first-met, firsts-of}

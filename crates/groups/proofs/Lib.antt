@@ -1,8 +1,7 @@
 -- The laws of groups, in reading order.
--- the groups of a block, and that a frontier's blocks have what they ask for
+-- the groups of a block
 pub mod FirstsOfClasses
 pub mod GroupLaws
-pub mod FrontierBlocks
 -- what combine does: columns gathered and compared, groups grown
 pub mod PushedColumns
 pub mod PassedEquations

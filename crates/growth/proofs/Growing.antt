@@ -126,7 +126,7 @@ grow-found p share (suc k) done [] left a b h = a
 grow-found p share (suc k) done (c ∷ queue) left a b h =
     grow-found p share k (done ++ (c ∷ [])) (queue ++ reverse (keep (share c) left)) (removed (share c) left)
     (all-push p done c a (all-head p c queue b))
-    (all-joined p queue (reverse (keep (share c) left)) (all-tail p c queue b) (all-reverse p (keep (share c) left) (all-keep p (share c) left h)))
+    (all-joined p queue (reverse (keep (share c) left)) (all-tail p c queue b) (all-reverse p (keep (share c) left) ∙ all-keep p (share c) left h))
     (all-removed p (share c) left h)
 
 -- it has no fewer sources than were done or in the queue
@@ -165,7 +165,7 @@ module _ (p : ℕ → Bool) (f g : ℕ → ℕ → Bool) (agree : (x y : ℕ) �
   grow-ext (suc k) done (c ∷ queue) left a b =
       let same = same-with c left (all-head p c queue a) b in
       grow-ext k (done ++ (c ∷ [])) (queue ++ reverse (keep (f c) left)) (removed (f c) left)
-      (all-joined p queue (reverse (keep (f c) left)) (all-tail p c queue a) (all-reverse p (keep (f c) left) (all-keep p (f c) left b)))
+      (all-joined p queue (reverse (keep (f c) left)) (all-tail p c queue a) (all-reverse p (keep (f c) left) ∙ all-keep p (f c) left b))
       (all-removed p (f c) left b)
       ∙ rw (keep-ext (f c) (g c) left same, removed-ext (f c) (g c) left same)
 

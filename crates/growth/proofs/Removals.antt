@@ -72,7 +72,7 @@ module _ {f : ℕ → Bool} {l k : List ℕ} {t : ℕ} {left : List ℕ} {n : �
 
       found-on : all p (take len found) ≡ true
       found-on =
-          rw (s .found-list) (all-joined p k (reverse (keep f (drop t l))) b (all-reverse p (keep f (drop t l)) (all-keep p f (drop t l) rest-on)))
+          rw (s .found-list) (all-joined p k (reverse (keep f (drop t l))) b (all-reverse p (keep f (drop t l)) ∙ all-keep p f (drop t l) rest-on))
 
   -- a turn: x is the next source, at place u
   module _ {u x : ℕ} (next : t ≡ suc u) (fits : t ≤ n) (at : x ≡ getD left u 0) where

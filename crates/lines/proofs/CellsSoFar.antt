@@ -99,9 +99,9 @@ none-inside = (pad-longer [], omega arith)
 cells-inside : (rows columns : ℕ) (vs : List ℕ) → Inside (lineWith rows columns (cellsOf vs))
 cells-inside rows columns vs = (pad-longer (cellsOf vs), omega (arith, length-take 1025 (map cellByte vs)))
 
-pub line-fits : (line : List ℕ) → lineOf line .len ≤ length (lineOf line .cells)
+pub line-fits : (line : List ℕ) (read : Line) → read ≡ lineOf line → read .len ≤ length (read .cells)
 unfolding lineOf
-line-fits line = go (numbersAt line 0 .readable) (numbersAt line 0 .list) .0
+line-fits line read is = rw is (go (numbersAt line 0 .readable) (numbersAt line 0 .list) .0)
   where
     go : (b : Bool) (l : List ℕ) → Inside (lineFrom (record { readable = b; list = l }))
     go true [] = none-inside

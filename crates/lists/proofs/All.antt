@@ -1,8 +1,8 @@
 -- Laws of `all`: at a place of the list, at a number of it, of two lists one after another, and from one test to another that it implies. Each goes down the list, and the
 -- laws of "and" take the head's test and the tail's apart. Assumes nothing.
-use mathlib.Core.Path.{_≡_, refl, _∙_}
+use mathlib.Core.Path.{_≡_, refl, ap, _∙_}
 use mathlib.Core.Logic.{_⊎_, inl, inr}
-use mathlib.Core.Bool.{Bool, true, false, _&&_}
+use mathlib.Core.Bool.{Bool, true, false, _&&_, and-true, and-comm}
 use mathlib.Core.List.{List, [], _∷_, _++_, reverse, reverse-cons}
 use Prim.Native.Nat.{ℕ, zero, suc, _-_, _<_}
 use native.Mathlib.Nat.{not-suc-le-zero, le-of-suc-le-suc}
@@ -54,10 +54,10 @@ module _ {A : Type 0} (p : A → Bool) where
       go (inl e) ih = rw (e, all-head p x l h) ih
       go (inr e) ih = rw e ih
 
-  pub all-reverse : (l : List A) → all p l ≡ true → all p (reverse l) ≡ true
-  all-reverse [] h = refl
-  all-reverse (x ∷ l) h =
-      rw (reverse-cons x l) (all-joined (reverse l) (x ∷ []) (all-reverse l (all-tail p x l h)) (rw (all-head p x l h)))
+  pub all-reverse : (l : List A) → all p (reverse l) ≡ all p l
+  all-reverse [] = refl
+  all-reverse (x ∷ l) =
+      ap (all p) (reverse-cons x l) ∙ all-append p (reverse l) (x ∷ []) ∙ rw (all-reverse l, and-true (p x)) (and-comm (all p l) (p x))
 
   pub all-take : (n : ℕ) (l : List A) → all p l ≡ true → all p (take n l) ≡ true
   all-take zero l h = refl

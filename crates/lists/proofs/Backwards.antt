@@ -3,9 +3,8 @@
 use mathlib.Core.Path.{_≡_, refl, sym, ap, _∙_}
 use mathlib.Core.Bool.{Bool, true, false}
 use mathlib.Core.List.{List, [], _∷_, _++_, map, map-append, append-nil, reverse, reverse-cons, reverse-append}
-use Prim.Native.Nat.{ℕ, zero, suc, _+_, _-_, _<_}
+use Prim.Native.Nat.{ℕ, suc, _+_, _-_, _<_}
 use native.Mathlib.Omega.{arith}
-use lib.ListN.{length}
 use Rattle.lists.specs.Lists.{range, keep}
 use Rattle.lists.proofs.Members.{range-last}
 use Rattle.lists.proofs.Kept.{keep-append}
@@ -18,6 +17,13 @@ range-back a e h =
     let n : e - a ≡ suc (e - 1 - a) = omega arith in
     let m : a + (e - 1 - a) ≡ e - 1 = omega arith in
     ap (range a) n ∙ range-last a (e - 1 - a) ∙ ap (λ (x : ℕ). range a (e - 1 - a) ++ (x ∷ [])) m
+
+-- the numbers below b, turned round, begin with the one before b
+pub range-turned : (b : ℕ) → 0 < b → reverse (range 0 b) ≡ (b - 1) ∷ reverse (range 0 (b - 1))
+range-turned b h =
+    let n : b - 0 ≡ b = omega arith in
+    let m : b - 1 - 0 ≡ b - 1 = omega arith in
+    ap reverse (rw (n, m) at (range-back 0 b h)) ∙ reverse-append (range 0 (b - 1)) ((b - 1) ∷ [])
 
 -- ---- what is kept, turned round
 

@@ -1,5 +1,5 @@
 -- Laws of `count`, `any` and `all`: what a count says of the numbers counted, counts of parts, of shared numbers, and of a number moved. Assumes nothing.
-use mathlib.Core.Path.{_≡_, refl, sym, ap, _∙_}
+use mathlib.Core.Path.{_≡_, refl, sym, _∙_}
 use mathlib.Core.Logic.{_⊎_, inl, inr, _≢_}
 use mathlib.Core.Bool.{Bool, true, false, not, cond, _&&_, _||_}
 use mathlib.Core.List.{List, [], _∷_, _++_}
@@ -8,14 +8,14 @@ use native.Mathlib.Omega.{arith}
 use native.Mathlib.Nat.{not-suc-le-zero, le-of-suc-le-suc}
 use lib.ListN.{length, getD, set}
 use lib.Dec.{eqb}
-use borrow.Author.Tests.{eqb-true, eqb-false, eq-eqb, ne-eqb, not-true}
+use borrow.Author.Tests.{eqb-true, eqb-false, eq-eqb, ne-eqb}
 use Rattle.lists.specs.Lists.{bit, keep, count, any, has, nodup, without}
-use Rattle.lists.proofs.Tests.{Decided, decided, clash, and-left, and-right, or-cases, or-right}
+use Rattle.lists.proofs.Tests.{Decided, decided, clash, or-cases, or-right}
 use Rattle.lists.proofs.Members.{has-head, has-tail, nodup-head, nodup-tail, without-gone}
 
 -- ---- what a count says
 
-pub count-le : (f : ℕ → Bool) (l : List ℕ) → count f l ≤ length l
+pub count-le : {A : Type 0} (f : A → Bool) (l : List A) → count f l ≤ length l
 count-le f [] = omega arith
 count-le f (c ∷ l) = go (f c) (count-le f l)
   where
@@ -75,7 +75,7 @@ count-zero f l h = count-ext f (λ _. false) l h ∙ none l
 
 -- ---- parts
 
-pub count-append : (f : ℕ → Bool) (k l : List ℕ) → count f (k ++ l) ≡ count f k + count f l
+pub count-append : {A : Type 0} (f : A → Bool) (k l : List A) → count f (k ++ l) ≡ count f k + count f l
 count-append f [] l = omega arith
 count-append f (x ∷ k) l = omega (arith, count-append f k l)
 
@@ -88,7 +88,7 @@ count-split f g (c ∷ l) = go (g c) (count-split f g l)
     go true ih = omega arith
     go false ih = omega arith
 
-pub count-kept : (f g : ℕ → Bool) (l : List ℕ) → count f (keep g l) ≡ count (λ c. g c && f c) l
+pub count-kept : {A : Type 0} (f g : A → Bool) (l : List A) → count f (keep g l) ≡ count (λ c. g c && f c) l
 count-kept f g [] = refl
 count-kept f g (c ∷ l) = go (g c) (count-kept f g l)
   where
@@ -97,7 +97,7 @@ count-kept f g (c ∷ l) = go (g c) (count-kept f g l)
     go false ih = omega arith
 
 -- as many are kept as are counted
-pub length-keep : (f : ℕ → Bool) (l : List ℕ) → length (keep f l) ≡ count f l
+pub length-keep : {A : Type 0} (f : A → Bool) (l : List A) → length (keep f l) ≡ count f l
 length-keep f [] = refl
 length-keep f (c ∷ l) = go (f c) (length-keep f l)
   where

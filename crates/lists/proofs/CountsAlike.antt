@@ -1,47 +1,23 @@
--- Counts in lists of elements of any type: of parts, of a list mapped, turned round or kept by a test, of two tests together, and of tests that agree.
+-- Counts in lists of elements of any type: of a list mapped or turned round, of two tests together, and of tests that agree.
 -- Two lists in which every test counts alike have the same elements, each as often.
--- Rests on `Occurrences`. Assumes nothing.
+-- Rests on `Counts`. Assumes nothing.
 use mathlib.Core.Path.{_≡_, refl, sym, ap, _∙_}
 use mathlib.Core.Logic.{_⊎_, inl, inr}
-use mathlib.Core.Bool.{Bool, true, false, not, _&&_}
-use mathlib.Core.List.{List, [], _∷_, _++_, map, reverse, reverse-cons, List·Memᴰ, List·Memᴰ·head, List·Memᴰ·tail, List·Memᴰ·not-nil, List·Memᴰ·cases-cons}
-use Prim.Native.Nat.{ℕ, suc, _+_, _≤_, _<_}
+use mathlib.Core.Bool.{Bool, true, false, not}
+use mathlib.Core.List.{List, [], _∷_, map, reverse, reverse-cons, List·Memᴰ, List·Memᴰ·head, List·Memᴰ·tail, List·Memᴰ·not-nil, List·Memᴰ·cases-cons}
+use Prim.Native.Nat.{ℕ, _+_, _≤_, _<_}
 use native.Mathlib.Omega.{arith}
 use lib.Dec.{eqb}
 use lib.ListN.{length}
-use borrow.Author.Tests.{eqb-true, eq-eqb, ne-eqb}
-use Rattle.lists.specs.Lists.{bit, keep, count, all, has, nodup}
-use Rattle.lists.proofs.Tests.{Decided, decided, clash, or-cases, or-false-left, or-false-right}
-use Rattle.lists.proofs.Members.{nodup-head, nodup-tail}
+use borrow.Author.Tests.{ne-eqb}
+use Rattle.lists.specs.Lists.{bit, count, all}
+use Rattle.lists.proofs.Tests.{Decided, decided}
+use Rattle.lists.proofs.Counts.{count-le, count-append}
 
 module _ {A : Type 0} where
-  pub counts-append : (f : A → Bool) (k l : List A) → count f (k ++ l) ≡ count f k + count f l
-  counts-append f [] l = omega arith
-  counts-append f (x ∷ k) l = omega (arith, counts-append f k l)
-
   pub counts-reverse : (f : A → Bool) (l : List A) → count f (reverse l) ≡ count f l
   counts-reverse f [] = refl
-  counts-reverse f (x ∷ l) = ap (count f) (reverse-cons x l) ∙ omega (arith, counts-append f (reverse l) (x ∷ []), counts-reverse f l)
-
-  pub counts-keep : (f g : A → Bool) (l : List A) → count f (keep g l) ≡ count (λ x. g x && f x) l
-  counts-keep f g [] = refl
-  counts-keep f g (x ∷ l) = go (decided (g x)) (counts-keep f g l)
-    where
-      go : Decided (g x) → count f (keep g l) ≡ count (λ y. g y && f y) l → count f (keep g (x ∷ l)) ≡ count (λ y. g y && f y) (x ∷ l)
-      go (inl e) ih = rw (e, ih)
-      go (inr e) ih = rw e (omega arith)
-
-  pub counts-length : (l : List A) → count (λ _. true) l ≡ length l
-  counts-length [] = refl
-  counts-length (x ∷ l) = omega (arith, counts-length l)
-
-  pub counts-le : (f : A → Bool) (l : List A) → count f l ≤ length l
-  counts-le f [] = omega arith
-  counts-le f (x ∷ l) = go (f x) (counts-le f l)
-    where
-      go : (t : Bool) → count f l ≤ length l → bit t + count f l ≤ suc (length l)
-      go true h = omega arith
-      go false h = omega arith
+  counts-reverse f (x ∷ l) = ap (count f) (reverse-cons x l) ∙ omega (arith, count-append f (reverse l) (x ∷ []), counts-reverse f l)
 
   -- ---- two tests
 
@@ -86,7 +62,7 @@ module _ {A : Type 0} where
   counts-full f {y} (x ∷ l) h m = go (decided (f x)) (List·Memᴰ·cases-cons m) (λ k. counts-full f l k)
     where
       go : Decided (f x) → (y ≡ x) ⊎ List·Memᴰ y l → (length l ≤ count f l → List·Memᴰ y l → f y ≡ true) → f y ≡ true
-      go (inr a) e ih = absurd (omega (arith, counts-le f l, rw a at h))
+      go (inr a) e ih = absurd (omega (arith, count-le f l, rw a at h))
       go (inl a) (inl e) ih = rw e a
       go (inl a) (inr k) ih = ih (omega (arith, rw a at h)) k
 
@@ -98,9 +74,6 @@ module _ {A : Type 0} where
       go : Decided (f x) → all f l ≡ eqb (count (λ y. not (f y)) l) 0 → all f (x ∷ l) ≡ eqb (count (λ y. not (f y)) (x ∷ l)) 0
       go (inl e) ih = let z : count (λ y. not (f y)) l ≡ 0 + count (λ y. not (f y)) l = omega arith in rw e (ih ∙ ap (λ (n : ℕ). eqb n 0) z)
       go (inr e) ih = rw e (sym (ne-eqb (1 + count (λ y. not (f y)) l) 0 (λ w. omega arith)))
-
-  pub all-reverse : (f : A → Bool) (l : List A) → all f (reverse l) ≡ all f l
-  all-reverse f l = all-counts f (reverse l) ∙ ap (λ (n : ℕ). eqb n 0) (counts-reverse (λ x. not (f x)) l) ∙ sym (all-counts f l)
 
 pub counts-map : {A B : Type 0} (f : B → Bool) (g : A → B) (l : List A) → count f (map g l) ≡ count (λ x. f (g x)) l
 counts-map f g [] = refl

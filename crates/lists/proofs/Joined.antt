@@ -7,12 +7,12 @@ use Prim.Native.Nat.{ℕ, zero, suc, _+_, _-_, _*_, _≤_, _<_}
 use native.Mathlib.Nat.{not-suc-le-zero, le-of-suc-le-suc, zero-mul, suc-mul}
 use native.Mathlib.Omega.{arith}
 use lib.Dec.{eqb}
-use lib.ListN.{length, getD, take, drop, length-append, length-drop}
+use lib.ListN.{length, getD, take, drop, replicate, length-append, length-drop}
 use lib.Seq.{sets, drop-cons, split-at, take-append-seam, drop-append-seam, take-append-le, drop-append-le, take-at, drop-at, drop-drop, getD-take, getD-drop, take-length}
 use borrow.Author.Tests.{eqb-true}
 use Rattle.lists.specs.Lists.{range, all, has, joined, pad}
 use Rattle.lists.proofs.All.{all-head, all-tail}
-use Rattle.lists.proofs.Arrays.{pad-push}
+use Rattle.lists.proofs.Arrays.{pad-nil, pad-push}
 use Rattle.lists.proofs.Members.{has-head, has-tail, range-last}
 
 -- ---- ranges of places
@@ -125,6 +125,10 @@ pad-sets {A} n d l (x ∷ k) h =
     ∙ ap (λ (i : ℕ). sets (pad n d (l ++ (x ∷ []))) i k) s
     ∙ pad-sets n d (l ++ (x ∷ [])) k (omega arith)
     ∙ ap (pad n d) (append-assoc l (x ∷ []) k)
+
+-- stored from the first place on, in an array of the filler alone
+pub filled-sets : {A : Type 0} (n : ℕ) (d : A) (l : List A) → length l ≤ n → sets (replicate n d) 0 l ≡ pad n d l
+filled-sets {A} n d l h = ap (λ (a : List A). sets a 0 l) (pad-nil n d) ∙ pad-sets n d [] l (omega arith)
 
 -- ---- what a loop over places gives
 

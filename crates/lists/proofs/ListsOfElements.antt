@@ -3,16 +3,15 @@
 -- and what two lists share. Rests on the laws of counts and of lists that stand among others. Assumes nothing.
 use mathlib.Core.Path.{_≡_, refl, sym, ap, _∙_}
 use mathlib.Core.Logic.{_⊎_, inl, inr}
-use mathlib.Core.Bool.{Bool, true, false, not, cond, _&&_}
+use mathlib.Core.Bool.{Bool, true, false, not, cond, _&&_, and-true}
 use mathlib.Core.List.{List, [], _∷_, _++_, map, List·Memᴰ, List·Memᴰ·not-nil, List·Memᴰ·cases-cons}
 use Prim.Native.Nat.{ℕ, _≤_}
 use native.Mathlib.Omega.{arith}
-use lib.ListN.{length}
 use Rattle.lists.specs.Lists.{keep, count, any, has, nodup, joined}
 use Rattle.lists.proofs.Tests.{same-test}
 use Rattle.lists.proofs.Counts.{count-ext, count-append, count-shared}
-use Rattle.lists.proofs.PassingElements.{any-mem, mem-any}
 use Rattle.lists.proofs.Among.{Among, among-nodup, joined-once}
+use Rattle.lists.proofs.Occurrences.{any-in, in-any}
 
 -- ---- the lists of some elements, one after another
 
@@ -34,11 +33,11 @@ module _ {A : Type 0} (g : A → List ℕ) where
     -- a test that passes only where the list has c
     pub any-one : (t : A → Bool) (c : ℕ) → ((y : A) → List·Memᴰ y l → t y ≡ true → has (g y) c ≡ true)
         → (x : A) → List·Memᴰ x l → has (g x) c ≡ true → any t l ≡ t x
-    any-one t c only x m h = same-test (any t l) (t x) there (mem-any t l x m)
+    any-one t c only x m h = same-test (any t l) (t x) there (in-any t l m)
       where
         there : any t l ≡ true → t x ≡ true
         there w =
-            let (y, n, k) = any-mem t l w in
+            let (y, n, k) = any-in t l w in
             rw (joined-once g l once x y m n c h (only y n k)) k
 
 module _ {A B : Type 0} where
@@ -57,10 +56,6 @@ module _ {A B : Type 0} where
 -- of two lists without repetition, as many numbers of the one stand in the other as of the other in the one
 pub count-mutual : (k l : List ℕ) → nodup k ≡ true → nodup l ≡ true → count (has l) k ≡ count (has k) l
 count-mutual k l a b =
-    count-ext (has l) (λ c. has l c && true) k (λ c _. all-true (has l c))
+    count-ext (has l) (λ c. has l c && true) k (λ c _. sym (and-true (has l c)))
     ∙ count-shared (λ _. true) k l a b
-    ∙ sym (count-ext (has k) (λ c. has k c && true) l (λ c _. all-true (has k c)))
-  where
-    all-true : (t : Bool) → t ≡ (t && true)
-    all-true true = refl
-    all-true false = refl
+    ∙ sym (count-ext (has k) (λ c. has k c && true) l (λ c _. sym (and-true (has k c))))

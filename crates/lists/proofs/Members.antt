@@ -1,15 +1,15 @@
 -- Which numbers stand in a list, and that none stands twice: of what is kept, joined, mapped, and of ranges. Assumes nothing.
 use mathlib.Core.Path.{_≡_, refl, sym, ap, _∙_}
 use mathlib.Core.Logic.{_⊎_, inl, inr, _≢_}
-use mathlib.Core.Bool.{Bool, true, false, not, cond, _&&_, _||_}
-use mathlib.Core.List.{List, [], _∷_, _++_, map}
+use mathlib.Core.Bool.{Bool, true, false, not, _&&_, _||_, and-false}
+use mathlib.Core.List.{List, [], _∷_, _++_}
 use Prim.Native.Nat.{ℕ, zero, suc, _+_, _-_, _≤_, _<_}
 use native.Mathlib.Nat.{not-suc-le-zero, le-of-suc-le-suc}
 use native.Mathlib.Omega.{arith}
 use lib.Dec.{eqb}
 use lib.ListN.{length, getD}
 use borrow.Author.Tests.{eqb-true, eqb-false, eq-eqb, ne-eqb, not-true}
-use Rattle.lists.specs.Lists.{range, keep, any, empty, has, nodup, without}
+use Rattle.lists.specs.Lists.{range, keep, empty, has, nodup, without}
 use Rattle.lists.proofs.Tests.{Decided, decided, clash, and-left, and-right, or-cases, or-right, or-false-left, or-false-right}
 
 pub has-head : (x : ℕ) (l : List ℕ) → has (x ∷ l) x ≡ true
@@ -50,11 +50,7 @@ has-append (a ∷ k) l x = go (eqb x a) (has-append k l x)
     go false ih = ih
 
 pub has-keep : (g : ℕ → Bool) (l : List ℕ) (c : ℕ) → has (keep g l) c ≡ (g c && has l c)
-has-keep g [] c = go (g c)
-  where
-    go : (x : Bool) → false ≡ (x && false)
-    go true = refl
-    go false = refl
+has-keep g [] c = sym (and-false (g c))
 has-keep g (x ∷ l) c = go (decided (g x)) (decided (eqb c x)) (has-keep g l c)
   where
     go : Decided (g x) → Decided (eqb c x) → has (keep g l) c ≡ (g c && has l c) → has (keep g (x ∷ l)) c ≡ (g c && has (x ∷ l) c)

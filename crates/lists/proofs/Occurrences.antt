@@ -1,12 +1,10 @@
 -- Which elements, of any type, stand in a list: in one that is kept by a test, turned round or mapped, where some or all elements pass a test,
 -- and what two tests that agree say. `List·Memᴰ x l`, a place at which x stands, is the library's. For numbers it says the same as the test `has`. Assumes nothing.
-use mathlib.Core.Path.{_≡_, refl, sym, ap}
+use mathlib.Core.Path.{_≡_, refl, sym}
 use mathlib.Core.Logic.{_⊎_, inl, inr}
 use mathlib.Core.Bool.{Bool, true, false}
-use mathlib.Core.List.{List, [], _∷_, _++_, map, reverse, reverse-cons, List·Memᴰ, List·Memᴰ·head, List·Memᴰ·tail, List·Memᴰ·not-nil, List·Memᴰ·cases-cons, List·Memᴰ·append-cases, List·Memᴰ·eq-of-singleton, Memᴰ·append-left, Memᴰ·append-right}
+use mathlib.Core.List.{List, [], _∷_, _++_, map, reverse, reverse-cons, List·Memᴰ, List·Memᴰ·head, List·Memᴰ·tail, List·Memᴰ·not-nil, List·Memᴰ·cases-cons, List·Memᴰ·append-cases, List·Memᴰ·eq-of-singleton, Memᴰ·append-left, Memᴰ·append-right, Memᴰ·of-map}
 use Prim.Native.Nat.{ℕ}
-use lib.Dec.{eqb}
-use borrow.Author.Tests.{eqb-true, eq-eqb}
 use Rattle.lists.specs.Lists.{keep, any, all, empty, has}
 use Rattle.lists.proofs.Tests.{Decided, decided, clash, same-test, or-cases, or-left, or-right}
 use Rattle.lists.proofs.All.{all-head, all-tail}
@@ -109,22 +107,10 @@ module _ {A : Type 0} where
     any-agree [] h = refl
     any-agree (y ∷ l) h = rw (h y (List·Memᴰ·head refl), any-agree l (λ x m. h x (List·Memᴰ·tail m)))
 
-module _ {A B : Type 0} (g : A → B) where
-  pub map-in : {y : B} (l : List A) → List·Memᴰ y (map g l) → (x : A) × List·Memᴰ x l × (y ≡ g x)
-  map-in [] m = absurd (List·Memᴰ·not-nil m)
-  map-in {y} (z ∷ l) m = go (List·Memᴰ·cases-cons m) (λ k. map-in l k)
-    where
-      go : (y ≡ g z) ⊎ List·Memᴰ y (map g l) → (List·Memᴰ y (map g l) → (x : A) × List·Memᴰ x l × (y ≡ g x)) → (x : A) × List·Memᴰ x (z ∷ l) × (y ≡ g x)
-      go (inl w) ih = (z, List·Memᴰ·head refl, w)
-      go (inr k) ih = let (x, a, b) = ih k in (x, List·Memᴰ·tail a, b)
+-- ---- mapped
 
-  pub in-map : {x : A} (l : List A) → List·Memᴰ x l → List·Memᴰ (g x) (map g l)
-  in-map [] m = absurd (List·Memᴰ·not-nil m)
-  in-map {x} (z ∷ l) m = go (List·Memᴰ·cases-cons m) (λ k. in-map l k)
-    where
-      go : (x ≡ z) ⊎ List·Memᴰ x l → (List·Memᴰ x l → List·Memᴰ (g x) (map g l)) → List·Memᴰ (g x) (map g (z ∷ l))
-      go (inl w) ih = List·Memᴰ·head (ap g w)
-      go (inr k) ih = List·Memᴰ·tail (ih k)
+pub map-in : {A B : Type 0} (g : A → B) {y : B} (l : List A) → List·Memᴰ y (map g l) → (x : A) × List·Memᴰ x l × (y ≡ g x)
+map-in g l m = let (x, n, w) = Memᴰ·of-map g l m in (x, n, sym w)
 
 -- ---- numbers
 

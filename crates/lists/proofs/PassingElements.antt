@@ -1,12 +1,11 @@
--- Elements of any type: where some element passes a test, and what is true of each element, of lists that are kept, mapped, turned round and joined.
--- Membership is the library's `List·Memᴰ`, a place at which the element stands. Assumes nothing.
+-- Elements of any type: where no element passes a test, and what is true of each element, of lists that are kept, mapped, turned round and joined.
+-- Membership is the library's `List·Memᴰ`, a place at which the element stands. Rests on `Occurrences`. Assumes nothing.
 use mathlib.Core.Path.{_≡_, refl, sym, ap, _∙_}
-use mathlib.Core.Logic.{_⊎_, inl, inr}
-use mathlib.Core.Bool.{Bool, true, false, cond, _&&_, _||_}
-use mathlib.Core.List.{List, [], _∷_, map, reverse, reverse-cons, List·Memᴰ, List·Memᴰ·head, List·Memᴰ·tail, List·Memᴰ·not-nil, List·Memᴰ·cases-cons, Memᴰ·map, Memᴰ·of-map}
+use mathlib.Core.Bool.{Bool, true, false, cond, _&&_, _||_, or-false, or-comm}
+use mathlib.Core.List.{List, [], _∷_, map, reverse, reverse-cons, List·Memᴰ, List·Memᴰ·head, List·Memᴰ·tail, Memᴰ·map, Memᴰ·of-map}
 use Rattle.lists.specs.Lists.{keep, any, joined}
-use Rattle.lists.proofs.Tests.{Decided, decided, clash, or-cases, or-right}
 use Rattle.lists.proofs.Unions.{any-append, mem-joined, joined-mem}
+use Rattle.lists.proofs.Occurrences.{kept-in}
 
 -- a test that implies another fails where that fails
 pub not-passes : (a b : Bool) → (a ≡ true → b ≡ true) → b ≡ false → a ≡ false
@@ -16,29 +15,6 @@ not-passes false b h e = refl
 module _ {A : Type 0} where
   -- ---- some element passes
 
-  -- then there is one that does
-  pub any-mem : (f : A → Bool) (l : List A) → any f l ≡ true → (x : A) × List·Memᴰ x l × (f x ≡ true)
-  any-mem f [] h = clash false h refl
-  any-mem f (x ∷ l) h = go (or-cases (f x) (any f l) h) (any-mem f l)
-    where
-      go : (f x ≡ true) ⊎ (any f l ≡ true) → (any f l ≡ true → (y : A) × List·Memᴰ y l × (f y ≡ true)) → (y : A) × List·Memᴰ y (x ∷ l) × (f y ≡ true)
-      go (inl e) ih = (x, List·Memᴰ·head refl, e)
-      go (inr e) ih = let (y, m, t) = ih e in (y, List·Memᴰ·tail m, t)
-
-  -- and back
-  pub mem-any : (f : A → Bool) (l : List A) (x : A) → List·Memᴰ x l → f x ≡ true → any f l ≡ true
-  mem-any f [] x m h = absurd (List·Memᴰ·not-nil m)
-  mem-any f (y ∷ l) x m h = go (List·Memᴰ·cases-cons m) (λ n. mem-any f l x n h)
-    where
-      go : (x ≡ y) ⊎ List·Memᴰ x l → (List·Memᴰ x l → any f l ≡ true) → (f y || any f l) ≡ true
-      go (inl e) ih = rw (← e, h)
-      go (inr n) ih = or-right (f y) (any f l) (ih n)
-
-  -- two tests that agree on the elements
-  pub any-ext : (f g : A → Bool) (l : List A) → ((x : A) → List·Memᴰ x l → f x ≡ g x) → any f l ≡ any g l
-  any-ext f g [] h = refl
-  any-ext f g (x ∷ l) h = rw (h x (List·Memᴰ·head refl), any-ext f g l (λ y m. h y (List·Memᴰ·tail m)))
-
   -- none passes
   pub any-none : (f : A → Bool) (l : List A) → ((x : A) → List·Memᴰ x l → f x ≡ false) → any f l ≡ false
   any-none f [] h = refl
@@ -47,40 +23,9 @@ module _ {A : Type 0} where
   -- of the list turned round
   pub any-reverse : (f : A → Bool) (l : List A) → any f (reverse l) ≡ any f l
   any-reverse f [] = refl
-  any-reverse f (x ∷ l) = ap (any f) (reverse-cons x l) ∙ any-append f (reverse l) (x ∷ []) ∙ rw (any-reverse f l) (turned (any f l) (f x))
-    where
-      turned : (a b : Bool) → (a || (b || false)) ≡ (b || a)
-      turned true true = refl
-      turned true false = refl
-      turned false true = refl
-      turned false false = refl
+  any-reverse f (x ∷ l) = ap (any f) (reverse-cons x l) ∙ any-append f (reverse l) (x ∷ []) ∙ rw (any-reverse f l, or-false (f x)) (or-comm (any f l) (f x))
 
   -- ---- what is kept
-
-  -- an element that is kept was there, and passes
-  pub mem-kept : (f : A → Bool) (l : List A) (x : A) → List·Memᴰ x (keep f l) → List·Memᴰ x l × (f x ≡ true)
-  mem-kept f [] x m = absurd (List·Memᴰ·not-nil m)
-  mem-kept f (y ∷ l) x m = go (decided (f y)) (mem-kept f l x)
-    where
-      cases : f y ≡ true → (x ≡ y) ⊎ List·Memᴰ x (keep f l) → (List·Memᴰ x (keep f l) → List·Memᴰ x l × (f x ≡ true))
-          → List·Memᴰ x (y ∷ l) × (f x ≡ true)
-      cases e (inl w) ih = (List·Memᴰ·head w, rw w e)
-      cases e (inr n) ih = let (k, t) = ih n in (List·Memᴰ·tail k, t)
-
-      go : Decided (f y) → (List·Memᴰ x (keep f l) → List·Memᴰ x l × (f x ≡ true)) → List·Memᴰ x (y ∷ l) × (f x ≡ true)
-      go (inl e) ih = cases e (List·Memᴰ·cases-cons (rw e at m)) ih
-      go (inr e) ih = let (k, t) = ih (rw e at m) in (List·Memᴰ·tail k, t)
-
-  -- one that passes is kept
-  pub kept-mem : (f : A → Bool) (l : List A) (x : A) → List·Memᴰ x l → f x ≡ true → List·Memᴰ x (keep f l)
-  kept-mem f [] x m h = absurd (List·Memᴰ·not-nil m)
-  kept-mem f (y ∷ l) x m h = go (decided (f y)) (List·Memᴰ·cases-cons m) (λ n. kept-mem f l x n h)
-    where
-      go : Decided (f y) → (x ≡ y) ⊎ List·Memᴰ x l → (List·Memᴰ x l → List·Memᴰ x (keep f l)) → List·Memᴰ x (keep f (y ∷ l))
-      go (inl e) (inl w) ih = rw e (List·Memᴰ·head w)
-      go (inl e) (inr n) ih = rw e (List·Memᴰ·tail (ih n))
-      go (inr e) (inl w) ih = clash (f y) (rw w at h) e
-      go (inr e) (inr n) ih = rw e (ih n)
 
   -- some element that is kept passes another test
   pub any-keep : (f g : A → Bool) (l : List A) → any f (keep g l) ≡ any (λ x. g x && f x) l
@@ -100,7 +45,7 @@ module _ {A : Type 0} where
 
   -- then it is true of each that is kept
   pub each-kept : (P : A → Type 0) (f : A → Bool) (l : List A) → Each P l → Each P (keep f l)
-  each-kept P f l h x m = h x (mem-kept f l x m .0)
+  each-kept P f l h x m = h x (kept-in f l x m .0)
 
 -- ---- what is mapped and joined
 

@@ -22,7 +22,7 @@ Rearranged k l = (f : ℕ → Bool) → count f k ≡ count f l
 -- ---- a list's length, members and repetitions as counts
 
 -- all are counted
-pub count-all : (l : List ℕ) → count (λ _. true) l ≡ length l
+pub count-all : {A : Type 0} (l : List A) → count (λ _. true) l ≡ length l
 count-all [] = refl
 count-all (x ∷ l) = omega (arith, count-all l)
 

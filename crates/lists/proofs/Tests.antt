@@ -2,12 +2,12 @@
 use mathlib.Core.Path.{_≡_, refl, sym, ap, _∙_}
 use mathlib.Core.Logic.{_⊎_, inl, inr, _≢_}
 use mathlib.Core.Bool.{Bool, true, false, not, _&&_, _||_}
-use Prim.Native.Nat.{ℕ, zero, suc, _+_, _≤_, _<_}
+use Prim.Native.Nat.{ℕ, zero, suc, _+_, _<_}
 use native.Mathlib.Nat.{not-suc-le-zero}
 use native.Mathlib.Omega.{arith}
 use native.Mathlib.Numerals.{add-one}
 use lib.Dec.{eqb}
-use borrow.Author.Tests.{eqb-true, eqb-false, eq-eqb}
+use borrow.Author.Tests.{eqb-true, eqb-false}
 use Rattle.lists.specs.Lists.{every, bit}
 
 -- a test passes or fails
@@ -32,6 +32,10 @@ same-test false false f g = refl
 pub bit-is-one : (t : Bool) → eqb (bit t) 1 ≡ t
 bit-is-one true = refl
 bit-is-one false = refl
+
+pub bit-is-zero : (t : Bool) → eqb (bit t) 0 ≡ not t
+bit-is-zero true = refl
+bit-is-zero false = refl
 
 -- ---- "and" and "or"
 
@@ -66,6 +70,10 @@ or-false-left false b h = refl
 pub or-false-right : (a b : Bool) → (a || b) ≡ false → b ≡ false
 or-false-right true b h = cc
 or-false-right false b h = h
+
+pub not-or : (a b : Bool) → not (a || b) ≡ (not a && not b)
+not-or true b = refl
+not-or false b = refl
 
 -- ---- a test at every number below n
 

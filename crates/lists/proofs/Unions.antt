@@ -127,11 +127,7 @@ meets-mutual k l = same-test (meets k l) (meets l k) (meets-turned k l) (meets-t
 
 -- the numbers of both
 pub has-addNew : (l k : List ℕ) (c : ℕ) → has (addNew l k) c ≡ (has l c || has k c)
-has-addNew l [] c = go (has l c)
-  where
-    go : (t : Bool) → t ≡ (t || false)
-    go true = refl
-    go false = refl
+has-addNew l [] c = sym (or-false (has l c))
 has-addNew l (x ∷ k) c = go (decided (has l x)) (λ h. has-addNew h k c)
   where
     regroup : (a b d : Bool) → ((a || (b || false)) || d) ≡ (a || (b || d))

@@ -2,13 +2,13 @@
 -- on the laws of what stands between two places. Assumes nothing.
 use mathlib.Core.Path.{_≡_, sym, ap, _∙_}
 use mathlib.Core.Bool.{true, false}
-use mathlib.Core.List.{List, [], _∷_, _++_, map, reverse, reverse-append}
-use Prim.Native.Nat.{ℕ, suc, _+_, _-_, _≤_, _<_}
+use mathlib.Core.List.{List, [], _∷_, _++_, map, reverse}
+use Prim.Native.Nat.{ℕ, _+_, _-_, _≤_, _<_}
 use native.Mathlib.Omega.{arith}
 use lib.Dec.{eqb}
 use lib.ListN.{getD}
 use Rattle.lists.specs.Lists.{range, keep, joined}
-use Rattle.lists.proofs.Members.{range-last}
+use Rattle.lists.proofs.Backwards.{range-turned}
 use Rattle.blocks.specs.BlockSets.{beginAt}
 use Rattle.blocks.specs.Places.{cellsFrom}
 use Rattle.blocks.proofs.Between.{cells-more, cells-none}
@@ -38,20 +38,11 @@ module _ (marks : List ℕ) (mark : ℕ) (cells : List ℕ) (i end : ℕ) where
 
 -- ---- of all blocks, from the last
 
-back : (b : ℕ) → 0 < b → reverse (range 0 b) ≡ (b - 1) ∷ reverse (range 0 (b - 1))
-back b h =
-    let n : b ≡ suc (b - 1) = omega arith in
-    let m : 0 + (b - 1) ≡ b - 1 = omega arith in
-    ap (λ (k : ℕ). reverse (range 0 k)) n
-    ∙ ap reverse (range-last 0 (b - 1))
-    ∙ reverse-append (range 0 (b - 1)) ((0 + (b - 1)) ∷ [])
-    ∙ ap (λ (k : ℕ). k ∷ reverse (range 0 (b - 1))) m
-
 module _ (marks cells ends : List ℕ) (b : ℕ) where
   -- the last block's come first
   pub all-last : 0 < b → allWith marks cells ends b ≡ cellsWith marks 1 cells (beginAt ends (b - 1)) (getD ends (b - 1) 0) ++ allWith marks cells ends (b - 1)
   unfolding allWith
-  all-last h = ap (λ (l : List ℕ). joined (map (λ (k : ℕ). cellsWith marks 1 cells (beginAt ends k) (getD ends k 0)) l)) (back b h)
+  all-last h = ap (λ (l : List ℕ). joined (map (λ (k : ℕ). cellsWith marks 1 cells (beginAt ends k) (getD ends k 0)) l)) (range-turned b h)
 
   pub all-none : b ≤ 0 → allWith marks cells ends b ≡ []
   unfolding allWith

@@ -2,7 +2,7 @@
 -- is stored place by place is stored up to where the loop stands. Rests on the laws of a mark set. Assumes nothing.
 use mathlib.Core.Path.{_≡_, refl, sym, ap, _∙_}
 use mathlib.Core.Logic.{inl, inr}
-use mathlib.Core.Bool.{Bool, true, false, _||_}
+use mathlib.Core.Bool.{Bool, true, false, _||_, or-false}
 use mathlib.Core.List.{List, [], _∷_}
 use Prim.Native.Nat.{ℕ, _+_, _≤_, _<_}
 use native.Mathlib.Omega.{arith}
@@ -12,8 +12,7 @@ use lib.Seq.{getD-set-same, getD-set-other}
 use borrow.Author.Tests.{eqb-true, eqb-false}
 use Rattle.lists.specs.Lists.{bit, keep, has}
 use Rattle.lists.proofs.Tests.{Decided, decided}
-use Rattle.lists.proofs.Elements.{replicate-all}
-use Rattle.blocks.specs.Places.{marked, Marks}
+use Rattle.blocks.specs.Places.{marked}
 use Rattle.blocks.proofs.MarkLaws.{marked-set, marks-none}
 use Rattle.lists.proofs.StoredAndKept.{keep-next, keep-pass}
 
@@ -45,11 +44,7 @@ module _ (f : ℕ → Bool) (marks : List ℕ) {r l : List ℕ} (c : ℕ) (more 
       ap (λ (k : List ℕ). marked marks d || has k d) (sym (keep-pass f c more t))
 
 pub with-end : (f : ℕ → Bool) (marks : List ℕ) {l : List ℕ} → l ≡ [] → (d : ℕ) → markedWith f marks l d ≡ marked marks d
-with-end f marks e d = ap (λ (k : List ℕ). marked marks d || has (keep f k) d) e ∙ off (marked marks d)
-  where
-    off : (a : Bool) → (a || false) ≡ a
-    off true = refl
-    off false = refl
+with-end f marks e d = ap (λ (k : List ℕ). marked marks d || has (keep f k) d) e ∙ or-false (marked marks d)
 
 -- ---- a test stored place by place
 

@@ -8,7 +8,7 @@ use native.Mathlib.Omega.{arith}
 use lib.ListN.{length, getD, set, replicate, length-set, getD-replicate}
 use lib.Seq.{getD-set-same, getD-set-other}
 use Rattle.grid.specs.Cells.{cellOf}
-use Rattle.patterns.specs.Shapes.{marked, amongMines}
+use Rattle.patterns.specs.Shapes.{mineMark, amongMines}
 use Rattle.patterns.specs.Walk.{cellAt, Laid}
 use Rattle.patterns.proofs.FramedBoard.{below, after, among-mines-on, among-mines-off}
 
@@ -71,8 +71,8 @@ module _ (g : List (List ℕ)) (i j v : ℕ) (s : Square g) (hi : i < 32) (hj : 
 pub record Filled (rows columns : ℕ) (cells : List ℕ) (i j : ℕ) (g : List (List ℕ)) : Type 0 where
   pub square : Square g
   pub off : (a b : ℕ) → a < 32 → b < 32 → (a < rows → b < columns → ⊥) → cellAt g a b ≡ 255
-  pub above : (a b : ℕ) → a < i → b < columns → cellAt g a b ≡ marked (cellOf cells (a * columns + b))
-  pub left : (b : ℕ) → b < j → cellAt g i b ≡ marked (cellOf cells (i * columns + b))
+  pub above : (a b : ℕ) → a < i → b < columns → cellAt g a b ≡ mineMark (cellOf cells (a * columns + b))
+  pub left : (b : ℕ) → b < j → cellAt g i b ≡ mineMark (cellOf cells (i * columns + b))
 
 module _ (rows columns : ℕ) (cells : List ℕ) where
   pub filled-start : Filled rows columns cells 0 0 (replicate 32 (replicate 32 255))
@@ -85,7 +85,7 @@ module _ (rows columns : ℕ) (cells : List ℕ) where
       }
 
   -- the next cell of the row
-  pub filled-put : (g : List (List ℕ)) (i j v : ℕ) → rows ≤ 32 → columns ≤ 32 → i < rows → j < columns → v ≡ marked (cellOf cells (i * columns + j))
+  pub filled-put : (g : List (List ℕ)) (i j v : ℕ) → rows ≤ 32 → columns ≤ 32 → i < rows → j < columns → v ≡ mineMark (cellOf cells (i * columns + j))
       → Filled rows columns cells i j g → Filled rows columns cells i (j + 1) (put g i j v)
   filled-put g i j v few-rows few-columns on-rows on-columns ev f =
       record {
@@ -95,7 +95,7 @@ module _ (rows columns : ℕ) (cells : List ℕ) where
         left = λ b h. go b h (ℕ-discrete b j);
       }
     where
-      go : (b : ℕ) → b < j + 1 → Dec (b ≡ j) → cellAt (put g i j v) i b ≡ marked (cellOf cells (i * columns + b))
+      go : (b : ℕ) → b < j + 1 → Dec (b ≡ j) → cellAt (put g i j v) i b ≡ mineMark (cellOf cells (i * columns + b))
       go b h (yes e) = rw e (put-same g i j v (f .square) (omega arith) (omega arith) ∙ ev)
       go b h (no n) = put-other g i j v (f .square) (omega arith) (omega arith) i b (λ p q. n q) ∙ f .left b (omega arith)
 
@@ -104,7 +104,7 @@ module _ (rows columns : ℕ) (cells : List ℕ) where
   filled-row g i j h f =
       record { square = f .square; off = f .off; above = λ a b ha hb. go a b ha hb (ℕ-discrete a i); left = λ b k. absurd (omega arith) }
     where
-      go : (a b : ℕ) → a < i + 1 → b < columns → Dec (a ≡ i) → cellAt g a b ≡ marked (cellOf cells (a * columns + b))
+      go : (a b : ℕ) → a < i + 1 → b < columns → Dec (a ≡ i) → cellAt g a b ≡ mineMark (cellOf cells (a * columns + b))
       go a b ha hb (yes e) = rw e (f .left b (omega arith))
       go a b ha hb (no n) = f .above a b (omega arith) hb
 

@@ -2,7 +2,7 @@
 -- shape fits with its anchor below or right of those that are tried, since each has a cell two rows down and one two columns across. Assumes nothing.
 use mathlib.Core.Path.{_≡_, refl, sym, _∙_}
 use mathlib.Core.Logic.{_⊎_, inl, inr, _≢_, _↔_}
-use mathlib.Core.Bool.{Bool, true, false, not, cond, _&&_, _||_}
+use mathlib.Core.Bool.{Bool, true, false, not, _&&_, and-false}
 use mathlib.Core.List.{List, [], _∷_}
 use Prim.Native.Nat.{ℕ, _+_, _-_, _*_, _≤_, _<_}
 use native.Mathlib.Omega.{arith}
@@ -13,7 +13,7 @@ use Rattle.lists.specs.Lists.{any, all}
 use Rattle.lists.proofs.Tests.{Decided, decided, clash, and-left, and-right, or-cases}
 use Rattle.lists.proofs.All.{all-head, all-tail}
 use Rattle.grid.specs.Cells.{cellOf}
-use Rattle.patterns.specs.Shapes.{marked, amongMines, framed, PatternCell, Shape, shapes, asked, foundAt}
+use Rattle.patterns.specs.Shapes.{mineMark, amongMines, framed, PatternCell, Shape, shapes, asked, foundAt}
 
 -- ---- inside: the row and the column are from 1 to the sides
 
@@ -23,26 +23,13 @@ inside rows columns row column = (leb 1 row && leb row rows) && (leb 1 column &&
 -- a test that fails makes the whole fail
 module _ (a b : Bool) where
   second-fails : ((a && false) && b) ≡ false
-  second-fails = go a
-    where
-      go : (t : Bool) → ((t && false) && b) ≡ false
-      go true = refl
-      go false = refl
+  second-fails = rw (and-false a)
 
   third-fails : (a && (false && b)) ≡ false
-  third-fails = go a
-    where
-      go : (t : Bool) → (t && false) ≡ false
-      go true = refl
-      go false = refl
+  third-fails = and-false a
 
   last-fails : (a && (b && false)) ≡ false
-  last-fails = go a b
-    where
-      go : (t u : Bool) → (t && (u && false)) ≡ false
-      go true true = refl
-      go true false = refl
-      go false u = refl
+  last-fails = rw (and-false b) (and-false a)
 
 module _ (rows columns row column : ℕ) where
   pub within : 1 ≤ row → row ≤ rows → 1 ≤ column → column ≤ columns → inside rows columns row column ≡ true
@@ -63,7 +50,7 @@ module _ (rows columns row column : ℕ) where
 -- ---- the board, and off it
 
 module _ (rows columns : ℕ) (b : List ℕ) where
-  pub among-mines-on : (i j : ℕ) → i < rows → j < columns → amongMines rows columns b (i + 1) (j + 1) ≡ marked (cellOf b (i * columns + j))
+  pub among-mines-on : (i j : ℕ) → i < rows → j < columns → amongMines rows columns b (i + 1) (j + 1) ≡ mineMark (cellOf b (i * columns + j))
   unfolding amongMines
   among-mines-on i j h k =
       let r : i + 1 - 1 ≡ i = omega arith in
@@ -77,14 +64,14 @@ module _ (rows columns : ℕ) (b : List ℕ) where
   -- ---- the framed board
 
   module _ (i j : ℕ) (in-rows : i < rows) (in-columns : j < columns) where
-    on-board : framed rows columns b (i + 1) (j + 1) ≡ marked (cellOf b (i * columns + j))
+    on-board : framed rows columns b (i + 1) (j + 1) ≡ mineMark (cellOf b (i * columns + j))
     unfolding framed
     on-board = rw (le-leb (i + 1) (rows + 1) (omega arith), le-leb (j + 1) (columns + 1) (omega arith)) (among-mines-on i j in-rows in-columns)
 
     pub mine-on-board : (framed rows columns b (i + 1) (j + 1) ≡ 255) ↔ (cellOf b (i * columns + j) ≡ 255)
     mine-on-board = (λ h. go (ℕ-discrete (cellOf b (i * columns + j)) 255) (sym on-board ∙ h), λ e. on-board ∙ rw e)
       where
-        go : Dec (cellOf b (i * columns + j) ≡ 255) → marked (cellOf b (i * columns + j)) ≡ 255 → cellOf b (i * columns + j) ≡ 255
+        go : Dec (cellOf b (i * columns + j) ≡ 255) → mineMark (cellOf b (i * columns + j)) ≡ 255 → cellOf b (i * columns + j) ≡ 255
         go (yes e) h = e
         go (no d) h = let z = rw (ne-eqb (cellOf b (i * columns + j)) 255 d) at h in absurd (omega arith)
 
@@ -102,11 +89,7 @@ module _ (rows columns : ℕ) (b : List ℕ) where
 
   pub after-frame : (row column : ℕ) → columns + 1 < column → framed rows columns b row column ≡ 1
   unfolding framed
-  after-frame row column h = rw (lt-leb column (columns + 1) h) (go (leb row (rows + 1)))
-    where
-      go : (t : Bool) → cond (t && false) (amongMines rows columns b row column) 1 ≡ 1
-      go true = refl
-      go false = refl
+  after-frame row column h = rw (lt-leb column (columns + 1) h) (rw (and-false (leb row (rows + 1))))
 
   -- ---- the anchors that are tried are all
 
@@ -132,11 +115,7 @@ module _ (rows columns : ℕ) (b : List ℕ) where
       all-fail : (ss : List Shape) → all (any far) ss ≡ true → foundAt (framed rows columns b) row column ss ≡ false
       unfolding foundAt
       all-fail [] h = refl
-      all-fail (s ∷ ss) h = rw (one-fails s (all-head (any far) s ss h), all-fail ss (all-tail (any far) s ss h)) (go (eqb (framed rows columns b row column) 255))
-        where
-          go : (t : Bool) → ((t && false) || false) ≡ false
-          go true = refl
-          go false = refl
+      all-fail (s ∷ ss) h = rw (one-fails s (all-head (any far) s ss h), all-fail ss (all-tail (any far) s ss h)) (rw (and-false (eqb (framed rows columns b row column) 255)))
 
     no-row-later : rows ≤ row → foundAt (framed rows columns b) row column shapes ≡ false
     no-row-later h = all-fail far none shapes refl

@@ -12,7 +12,7 @@ use borrow.Author.Tests.{eqb-true, eq-eqb}
 use Rattle.lists.specs.Lists.{all}
 use Rattle.lists.proofs.Tests.{clash, and-left, and-right, or-cases, or-left, or-right}
 use Rattle.lists.proofs.All.{all-append}
-use Rattle.patterns.specs.Shapes.{PatternCell, mine, safe, Shape, ring, twoColumns, betweenColumns, twoRows, betweenRows, fourCorners, diagonals, topLeft, topRight, bottomLeft, bottomRight, asked, fits, foundAt}
+use Rattle.patterns.specs.Shapes.{PatternCell, mine, safe, Shape, ring, twoColumns, betweenColumns, twoRows, betweenRows, fourCorners, diagonals, topLeft, topRight, bottomLeft, bottomRight, asked, shapeAt, foundAt}
 
 module _ (at : ℕ → ℕ → ℕ) (row column : ℕ) where
   -- so many rows down and columns across from the anchor stands a mine, or a safe cell
@@ -46,40 +46,40 @@ module _ (at : ℕ → ℕ → ℕ) (row column : ℕ) where
       let c : column ≡ column + 0 = omega arith in
       ap (λ (x : ℕ). at x column) r ∙ ap (at (row + 0)) c
 
-  fit-words : (s : Shape) → fits at row column s ≡ true → Mine 0 0 × Asks s
+  fit-words : (s : Shape) → shapeAt at row column s ≡ true → Mine 0 0 × Asks s
   fit-words s h =
       let anchor = eqb (at row column) 255 in
       let others = all (asked at row column) s in
       (sym anchor-place ∙ eqb-true (at row column) 255 (and-left anchor others h), words s (and-right anchor others h))
 
-  words-fit : (s : Shape) → Mine 0 0 → Asks s → fits at row column s ≡ true
+  words-fit : (s : Shape) → Mine 0 0 → Asks s → shapeAt at row column s ≡ true
   words-fit s m w = rw (eq-eqb _ _ (anchor-place ∙ m)) (tests s w)
 
   -- two shapes that begin alike
   module _ (s x y : Shape) where
-    parted : (z : Shape) → fits at row column (s ++ z) ≡ true → (Mine 0 0 × Asks s) × Asks z
+    parted : (z : Shape) → shapeAt at row column (s ++ z) ≡ true → (Mine 0 0 × Asks s) × Asks z
     parted z h =
         let anchor = eqb (at row column) 255 in
         let test = all (asked at row column) in
         let both = sym (all-append (asked at row column) s z) ∙ and-right anchor (test (s ++ z)) h in
         ((fit-words (s ++ z) h .0, words s (and-left (test s) (test z) both)), words z (and-right (test s) (test z) both))
 
-    joint : (z : Shape) → (Mine 0 0 × Asks s) × Asks z → fits at row column (s ++ z) ≡ true
+    joint : (z : Shape) → (Mine 0 0 × Asks s) × Asks z → shapeAt at row column (s ++ z) ≡ true
     joint z w = rw (eq-eqb _ _ (anchor-place ∙ w .0 .0), all-append (asked at row column) s z, tests s (w .0 .1)) (tests z (w .1))
 
     found-words : foundAt at row column ((s ++ x) ∷ (s ++ y) ∷ []) ≡ true → (Mine 0 0 × Asks s) × (Asks x ⊎ Asks y)
     unfolding foundAt
-    found-words h = go (or-cases (fits at row column (s ++ x)) (fits at row column (s ++ y) || false) h)
+    found-words h = go (or-cases (shapeAt at row column (s ++ x)) (shapeAt at row column (s ++ y) || false) h)
       where
-        go : (fits at row column (s ++ x) ≡ true) ⊎ ((fits at row column (s ++ y) || false) ≡ true) → (Mine 0 0 × Asks s) × (Asks x ⊎ Asks y)
+        go : (shapeAt at row column (s ++ x) ≡ true) ⊎ ((shapeAt at row column (s ++ y) || false) ≡ true) → (Mine 0 0 × Asks s) × (Asks x ⊎ Asks y)
         go (inl e) = let w = parted x e in (w .0, inl (w .1))
-        go (inr e) = ⊎-elim (λ f. let w = parted y f in (w .0, inr (w .1))) (λ f. clash false f refl) (or-cases (fits at row column (s ++ y)) false e)
+        go (inr e) = ⊎-elim (λ f. let w = parted y f in (w .0, inr (w .1))) (λ f. clash false f refl) (or-cases (shapeAt at row column (s ++ y)) false e)
 
     words-found : Mine 0 0 → Asks s → Asks x ⊎ Asks y → foundAt at row column ((s ++ x) ∷ (s ++ y) ∷ []) ≡ true
     unfolding foundAt
-    words-found m w (inl z) = or-left (fits at row column (s ++ x)) (fits at row column (s ++ y) || false) (joint x ((m, w), z))
+    words-found m w (inl z) = or-left (shapeAt at row column (s ++ x)) (shapeAt at row column (s ++ y) || false) (joint x ((m, w), z))
     words-found m w (inr z) =
-        or-right (fits at row column (s ++ x)) (fits at row column (s ++ y) || false) (or-left (fits at row column (s ++ y)) false (joint y ((m, w), z)))
+        or-right (shapeAt at row column (s ++ x)) (shapeAt at row column (s ++ y) || false) (or-left (shapeAt at row column (s ++ y)) false (joint y ((m, w), z)))
 
   -- ---- 3 × 3: mines around a safe cell
 
@@ -88,15 +88,15 @@ module _ (at : ℕ → ℕ → ℕ) (row column : ℕ) where
     pub middle : Mine 1 0 × Safe 1 1 × Mine 1 2
     pub bottom : Mine 2 0 × Mine 2 1 × Mine 2 2
 
-  pub ring-fits : (fits at row column ring ≡ true) ↔ Ring
+  pub ring-fits : (shapeAt at row column ring ≡ true) ↔ Ring
   ring-fits = (there, back)
     where
-      there : fits at row column ring ≡ true → Ring
+      there : shapeAt at row column ring ≡ true → Ring
       there h =
           let (m00, (m01, (m02, (m10, (m12, (m20, (m21, (m22, (s11, _))))))))) = fit-words ring h in
           record { top = (m00, m01, m02); middle = (m10, s11, m12); bottom = (m20, m21, m22) }
 
-      back : Ring → fits at row column ring ≡ true
+      back : Ring → shapeAt at row column ring ≡ true
       back r =
           let (m00, m01, m02) = r .top in
           let (m10, s11, m12) = r .middle in

@@ -3,7 +3,7 @@
 -- the matcher's test is what stands at the cell. Assumes nothing.
 use mathlib.Core.Path.{_≡_, refl, sym, ap, _∙_}
 use mathlib.Core.Logic.{_⊎_, inl, inr}
-use mathlib.Core.Bool.{Bool, true, false, _&&_}
+use mathlib.Core.Bool.{Bool, true, false, _&&_, and-false}
 use mathlib.Core.List.{List, [], _∷_}
 use Prim.Native.Nat.{ℕ, _+_, _≤_, _<_}
 use lib.Dec.{leb, ltb, eqb}
@@ -39,10 +39,6 @@ same-shapes : (l k : List Shape) → sameShapes l k ≡ true → l ≡ k
 same-shapes = same-by (sameBy sameCell) (same-by sameCell same-cell)
 
 -- ---- one entry
-
-and-false : (t : Bool) → (t && false) ≡ false
-and-false true = refl
-and-false false = refl
 
 module _ (f : PatternCell → Bool) where
   -- some shape has what it asks for in every cell

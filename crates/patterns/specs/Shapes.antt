@@ -11,13 +11,13 @@ use Rattle.grid.specs.Cells.{cellOf}
 -- ---- what stands where
 
 -- a cell of the board as the shapes see it: 255 for a mine, 0 for a safe cell, whatever its number
-abbrev pub marked : ℕ → ℕ
-marked v = cond (eqb v 255) 255 0
+abbrev pub mineMark : ℕ → ℕ
+mineMark v = cond (eqb v 255) 255 0
 
 -- the board among mines: off the board a mine stands everywhere
 unfoldable pub amongMines : ℕ → ℕ → List ℕ → ℕ → ℕ → ℕ
 amongMines rows columns b row column =
-    cond ((leb 1 row && leb row rows) && (leb 1 column && leb column columns)) (marked (cellOf b ((row - 1) * columns + (column - 1)))) 255
+    cond ((leb 1 row && leb row rows) && (leb 1 column && leb column columns)) (mineMark (cellOf b ((row - 1) * columns + (column - 1)))) 255
 
 -- the board in a frame of mines one cell wide; beyond the frame stands 1, which no shape asks for
 unfoldable pub framed : ℕ → ℕ → List ℕ → ℕ → ℕ → ℕ
@@ -106,12 +106,12 @@ abbrev pub asked : (ℕ → ℕ → ℕ) → ℕ → ℕ → PatternCell → Boo
 asked at row column p = eqb (at (row + p .down) (column + p .across)) (p .wanted)
 
 -- the shape fits at the anchor
-abbrev pub fits : (ℕ → ℕ → ℕ) → ℕ → ℕ → Shape → Bool
-fits at row column shape = eqb (at row column) 255 && all (asked at row column) shape
+abbrev pub shapeAt : (ℕ → ℕ → ℕ) → ℕ → ℕ → Shape → Bool
+shapeAt at row column shape = eqb (at row column) 255 && all (asked at row column) shape
 
 -- some of the shapes fits at the anchor
 unfoldable pub foundAt : (ℕ → ℕ → ℕ) → ℕ → ℕ → List Shape → Bool
-foundAt at row column ss = any (fits at row column) ss
+foundAt at row column ss = any (shapeAt at row column) ss
 
 -- some shape fits at some anchor; further down or to the right none can (`anchor-tried`)
 unfoldable pub foundAnywhere : (ℕ → ℕ → ℕ) → ℕ → ℕ → Bool

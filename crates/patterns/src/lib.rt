@@ -10,7 +10,7 @@ use table::pattern_found;
 ghost use mathlib.Core.Path.{_≡_};
 ghost use lib.ListN.{replicate};
 ghost use Rattle.grid.specs.Window.{Board};
-ghost use Rattle.patterns.specs.Shapes.{marked};
+ghost use Rattle.patterns.specs.Shapes.{mineMark};
 ghost use Rattle.patterns.specs.Answer.{unsolvableStructure};
 ghost use Rattle.patterns.specs.Walk.{Laid};
 
@@ -54,7 +54,7 @@ fn lay(board: &mut [[u8; 32]; 32], rows: usize, columns: usize, cells: &[u8])
 
 // A mine as 255, a safe cell as 0.
 fn mark(cell: u8) -> u8
-    ensures { λ r. ⌜ r ≡ marked cell ⌝ }
+    ensures { λ r. ⌜ r ≡ mineMark cell ⌝ }
 {
     if cell == 255 { 255 } else { 0 }
 }

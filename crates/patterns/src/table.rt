@@ -1,5 +1,6 @@
 // The tables of shapes, and the matcher that walks them. The board stands in a frame of mines one cell wide, and rows and columns are counted from the frame's; a
 // shape is laid by its anchor, which is a mine of every shape, and the tables have the other cells.
+use grid::window::wide_byte;
 ghost use mathlib.Core.Path.{_≡_};
 ghost use mathlib.Core.Bool.{true, _||_};
 ghost use Prim.Native.Nat.{_-_, _≤_, _<_};
@@ -266,15 +267,15 @@ fn found_at(
     }
     let mut k = 0;
     while k < cells.len() {
-        let down = row + wide(cells[k][0]);
-        let across = column + wide(cells[k][1]);
+        let down = row + wide_byte(cells[k][0]);
+        let across = column + wide_byte(cells[k][1]);
         if stands(board, rows, columns, down, across) == cells[k][2] {
             if cells[k][3] == 1 {
                 return true;
             }
             k += 1;
         } else {
-            k = wide(cells[k][4]);
+            k = wide_byte(cells[k][4]);
         }
     }
     false
@@ -304,11 +305,4 @@ fn stands(board: &[[u8; 32]; 32], rows: usize, columns: usize, row: usize, colum
         return 255;
     }
     board[row - 1][column - 1]
-}
-
-// A byte as a number to count rows, columns and entries with.
-fn wide(x: u8) -> usize
-    ensures { λ r. ⌜ (r ≡ x) × (r ≤ 255) ⌝ }
-{
-    x as usize
 }

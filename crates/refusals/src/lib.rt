@@ -1,6 +1,7 @@
 // The refusals of SPECIFICATION 3.1 and the tests that give them. A call runs its tests in the order of 3.2 and answers the first refusal;
 // what a later test asks for, the earlier ones have shown. No test forms rows × columns before the size is known to be small.
 use grid::window::count_beside;
+use grid::window::wide_byte;
 ghost use mathlib.Core.Path.{_≡_};
 ghost use mathlib.Core.Bool.{true, cond, _&&_};
 ghost use lib.Dec.{leb, eqb};
@@ -147,19 +148,12 @@ pub fn numbers_ok(edgeless: bool, rows: usize, columns: usize, cells: &[u8]) -> 
     for c in 0..n {
         let v = cells[c];
         if v != 255 {
-            if count_beside(edgeless, rows, columns, cells, c / columns, c % columns, 255) != wide_cell(v) {
+            if count_beside(edgeless, rows, columns, cells, c / columns, c % columns, 255) != wide_byte(v) {
                 return false;
             }
         }
     }
     true
-}
-
-// A cell's value as a number to compare counts with.
-fn wide_cell(v: u8) -> usize
-    ensures { λ r. ⌜ r ≡ v ⌝ }
-{
-    v as usize
 }
 
 // The place of the first 0 in reading order; the number of cells where there is none.

@@ -21,7 +21,8 @@ use Rattle.search.specs.Searching.{unset, treeAt, treeFrom, placed, Kept}
 use Rattle.search.proofs.OrderedGroups.{Group, unset-none, unset-more}
 use Rattle.search.proofs.Branches.{tree-leaf, tree-values, from-none, from-wide}
 use Rattle.search.proofs.TakenValues.{places, Taken, tree-more}
-use Rattle.search.proofs.KeptValues.{kept-same, kept-both, kept-set, length-placed, placed-kept}
+use Rattle.search.proofs.KeptValues.{kept-same, kept-both, kept-set, placed-kept}
+use Rattle.search.proofs.Orders.{length-placed}
 
 -- ---- one row
 

@@ -16,8 +16,7 @@ use Rattle.lists.proofs.Kept.{keep-append, keep-ext}
 use Rattle.lists.proofs.Backwards.{reverse-map}
 use Rattle.lists.proofs.Joined.{joined-append, joined-push}
 use Rattle.lists.proofs.Unions.{mem-joined, joined-mem, mem-has, has-mem, has-addNew}
-use Rattle.lists.proofs.Occurrences.{all-in}
-use Rattle.lists.proofs.PassingElements.{any-mem, mem-any, mem-kept}
+use Rattle.lists.proofs.Occurrences.{all-in, any-in, in-any, kept-in}
 use Rattle.lists.proofs.Among.{among-nodup, among-right, joined-once}
 use Rattle.lists.proofs.TurnedRound.{map-agree, keep-joined, map-joined, nodup-apart, add-new-behind}
 use Rattle.blocks.specs.Blocks.{BlockEquation, Block}
@@ -64,12 +63,12 @@ from-last-own f bs once own b m c h = from-last-has f bs c ∙ same-test (any (�
   where
     there : any (λ x. has (f x) c) bs ≡ true → has (f b) c ≡ true
     there k =
-        let (x, n, t) = any-mem (λ x. has (f x) c) bs k in
+        let (x, n, t) = any-in (λ x. has (f x) c) bs k in
         let same : x ≡ b = joined-once (λ (y : Block). y .cells) bs once x b n m c (own x n c t) h in
         rw same at t
 
     here : has (f b) c ≡ true → any (λ x. has (f x) c) bs ≡ true
-    here k = mem-any (λ x. has (f x) c) bs b m k
+    here k = in-any (λ x. has (f x) c) bs m k
 
 -- ---- one sweep
 
@@ -170,7 +169,7 @@ module _ (bs : List Block) (ready : Ready bs) where
       agree b m =
           map-agree (lessMines (sureMines (allEquations bs))) (lessMines (sureMines (b .equations))) (keep notFull (b .equations))
           (λ e n. less-mines-agree (sureMines (allEquations bs)) (sureMines (b .equations)) e
-          (λ c h. own-mine b m c (ready-inside bs ready b m e (mem-kept notFull (b .equations) e n .0) c h)))
+          (λ c h. own-mine b m c (ready-inside bs ready b m e (kept-in notFull (b .equations) e n .0) c h)))
 
   -- the safe cells are the blocks' safe cells
   pub safe-of-all : sureSafe (allEquations bs) ≡ fromLast (λ b. sureSafe (b .equations)) bs

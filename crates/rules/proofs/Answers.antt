@@ -7,7 +7,8 @@ use Prim.Native.Nat.{ℕ}
 use Rattle.lists.specs.Lists.{keep, any, has}
 use Rattle.lists.proofs.Tests.{and-right, clash}
 use Rattle.lists.proofs.Unions.{has-joined-map}
-use Rattle.lists.proofs.PassingElements.{any-mem, any-reverse, Each, each-kept, each-mapped, each-joined, joined-each}
+use Rattle.lists.proofs.PassingElements.{any-reverse, Each, each-kept, each-mapped, each-joined, joined-each}
+use Rattle.lists.proofs.Occurrences.{any-in}
 use Rattle.blocks.specs.Blocks.{BlockEquation, Block}
 use Rattle.blocks.specs.BlockSets.{allEquations}
 use Rattle.rules.specs.Found.{contradicted, found}
@@ -47,7 +48,7 @@ module _ (g : Block → List ℕ) (bs : List Block) where
   -- so what holds of each cell in the list of each block holds of each cell there
   pub from-last-each : (P : ℕ → Type 0) → ((b : Block) → List·Memᴰ b bs → (c : ℕ) → has (g b) c ≡ true → P c)
       → (c : ℕ) → has (fromLast g bs) c ≡ true → P c
-  from-last-each P each c h = let (b, m, k) = any-mem (λ b. has (g b) c) bs (sym (from-last-has c) ∙ h) in each b m c k
+  from-last-each P each c h = let (b, m, k) = any-in (λ b. has (g b) c) bs (sym (from-last-has c) ∙ h) in each b m c k
 
 -- ---- an answer
 

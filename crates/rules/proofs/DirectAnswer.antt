@@ -6,15 +6,14 @@ use mathlib.Core.List.{List, [], map}
 use Rattle.blocks.specs.Blocks.{BlockEquation, Block}
 use Rattle.blocks.specs.BlockSets.{allEquations, blockSet, Whole}
 use Rattle.blocks.specs.declared.BlockSet.{BlockSet}
-use Rattle.blocks.proofs.Behind.{set-whole}
+use Rattle.blocks.proofs.Behind.{set-whole, none-fits}
 use Rattle.chunks.specs.Chunks.{chunkMatrixes}
 use Rattle.marks.specs.Marked.{Ready}
 use Rattle.rules.specs.Found.{contradicted}
-use Rattle.rules.specs.Direct.{sureMines, sureSafe, directLeft, negative, direct}
+use Rattle.rules.specs.Direct.{directLeft, negative, direct}
 use Rattle.rules.specs.Answers.{Sweeps, ruleAnswer, listsOf, sweptLists}
 use Rattle.rules.specs.declared.answer.RuleAnswer.{RuleAnswer}
 use Rattle.rules.specs.declared.direct.Swept.{Swept}
-use Rattle.rules.proofs.LeftFits.{none-fits}
 use Rattle.rules.proofs.ListedCells.{listed-is}
 use Rattle.rules.proofs.AllBlocks.{mines-of-all, safe-of-all}
 

@@ -15,13 +15,14 @@ use Rattle.lists.proofs.Members.{kept-passes, kept-has, has-kept, nodup-append}
 use Rattle.lists.proofs.Counts.{count-append}
 use Rattle.lists.proofs.Rearranged.{rearranged-has, reverse-rearranged}
 use Rattle.lists.proofs.Unions.{append-cases, has-joined-map, has-addNew, nodup-addNew}
-use Rattle.lists.proofs.PassingElements.{not-passes, any-mem, mem-any, any-none, any-keep, mem-kept, kept-mem, each-kept}
+use Rattle.lists.proofs.PassingElements.{not-passes, any-none, any-keep, each-kept}
 use Rattle.lists.proofs.Among.{Among, nodup-among, joined-reverse, joined-among, joined-both}
+use Rattle.lists.proofs.Occurrences.{any-in, in-any, kept-in, in-kept}
 use Rattle.blocks.specs.Blocks.{BlockEquation, Block}
 use Rattle.blocks.specs.BlockSets.{allCells, allEquations}
 use Rattle.blocks.proofs.Saying.{says-all-mines, says-all-free}
+use Rattle.blocks.proofs.ProperBlocks.{Proper}
 use Rattle.chunks.specs.Chunks.{chunkMatrixes}
-use Rattle.frontier.proofs.BlockLaws.{Proper}
 use Rattle.rules.specs.Found.{contradicted, lessMines, lessSafe}
 use Rattle.rules.specs.Direct.{full, clear, cellsOf, sureMines, afterMines, sureSafe, afterSafe, directLeft, negative, fromLast, direct}
 use Rattle.rules.proofs.TakenOut.{taken-out-proper, SolvedBy, SolvesAll, isNegative, RestCovers, RestsCover, covers-less-mines, covers-less-safe, solves-less-mines, solves-less-safe, solved-not-negative}
@@ -42,13 +43,13 @@ cells-of-has t es c =
 pub cells-of-equation : (t : BlockEquation → Bool) (es : List BlockEquation) (c : ℕ) → has (cellsOf t es) c ≡ true
     → (e : BlockEquation) × List·Memᴰ e es × (t e ≡ true) × (has (e .cells) c ≡ true)
 cells-of-equation t es c h =
-    let (e, m, w) = any-mem (λ (d : BlockEquation). t d && has (d .cells) c) es (sym (cells-of-has t es c) ∙ h) in
+    let (e, m, w) = any-in (λ (d : BlockEquation). t d && has (d .cells) c) es (sym (cells-of-has t es c) ∙ h) in
     (e, m, and-left (t e) (has (e .cells) c) w, and-right (t e) (has (e .cells) c) w)
 
 -- and the cells of such an equation are all there
 pub equation-cells-of : (t : BlockEquation → Bool) (es : List BlockEquation) (c : ℕ) (e : BlockEquation)
     → List·Memᴰ e es → t e ≡ true → has (e .cells) c ≡ true → has (cellsOf t es) c ≡ true
-equation-cells-of t es c e m x h = cells-of-has t es c ∙ mem-any (λ (d : BlockEquation). t d && has (d .cells) c) es e m (rw (x, h))
+equation-cells-of t es c e m x h = cells-of-has t es c ∙ in-any (λ (d : BlockEquation). t d && has (d .cells) c) es m (rw (x, h))
 
 -- none stands twice
 pub cells-of-once : (t : BlockEquation → Bool) (es : List BlockEquation) → nodup (cellsOf t es) ≡ true
@@ -75,7 +76,7 @@ module _ (es : List BlockEquation) where
       → (d : BlockEquation) × List·Memᴰ d es × (full d ≡ false) × (lessMines (sureMines es) d ≡ e)
   after-mines-from e m =
       let (d, n, w) = Memᴰ·of-map (lessMines (sureMines es)) (keep notFull es) m in
-      let (k, t) = mem-kept notFull es d n in
+      let (k, t) = kept-in notFull es d n in
       (d, k, not-true (full d) t, w)
 
   -- a safe cell is no mine of the list, and a cell of an equation that is clear without the mines
@@ -181,18 +182,18 @@ direct-left-proper b proper = taken-out-proper ms ss b (afterSafe es) proper fro
     from : (e : BlockEquation) → List·Memᴰ e (afterSafe es) → (d : BlockEquation) × List·Memᴰ d es × (lessSafe ss (lessMines ms d) ≡ e)
     from e m =
         let (x, n, w) = Memᴰ·of-map (lessSafe ss) (keep notClear (afterMines es)) m in
-        let (d, k, _, v) = after-mines-from es x (mem-kept notClear (afterMines es) x n .0) in
+        let (d, k, _, v) = after-mines-from es x (kept-in notClear (afterMines es) x n .0) in
         (d, k, ap (lessSafe ss) v ∙ w)
 
     stays : (d : BlockEquation) → List·Memᴰ d es → (c : ℕ) → has (d .cells) c ≡ true → has ms c ≡ false → has ss c ≡ false
         → List·Memᴰ (lessSafe ss (lessMines ms d)) (afterSafe es)
-    stays d m c h x y = Memᴰ·map (lessSafe ss) (kept-mem notClear (afterMines es) (lessMines ms d) second (rw not-clear))
+    stays d m c h x y = Memᴰ·map (lessSafe ss) (in-kept notClear (afterMines es) second (rw not-clear))
       where
         not-full : full d ≡ false
         not-full = not-passes (full d) (has ms c) (λ t. equation-cells-of full es c d m t h) x
 
         second : List·Memᴰ (lessMines ms d) (afterMines es)
-        second = Memᴰ·map (lessMines ms) (kept-mem notFull es d m (rw not-full))
+        second = Memᴰ·map (lessMines ms) (in-kept notFull es m (rw not-full))
 
         not-clear : clear (lessMines ms d) ≡ false
         not-clear = not-passes (clear (lessMines ms d)) (has ss c)

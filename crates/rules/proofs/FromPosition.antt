@@ -16,17 +16,19 @@ use Rattle.lists.proofs.Tests.{same-test, and-left, and-right}
 use Rattle.lists.proofs.Members.{has-not-empty}
 use Rattle.lists.proofs.Counts.{count-le, count-ext, any-at, any-of}
 use Rattle.lists.proofs.Unions.{mem-has, has-mem}
-use Rattle.lists.proofs.PassingElements.{any-ext, any-map}
+use Rattle.lists.proofs.PassingElements.{any-map}
+use Rattle.lists.proofs.Occurrences.{any-agree}
 use Rattle.grid.specs.Cells.{shows}
 use Rattle.fitting.specs.Equations.{isKnownMine}
 use Rattle.blocks.specs.Blocks.{BlockEquation}
 use Rattle.blocks.specs.BlockSets.{allEquations}
+use Rattle.blocks.proofs.ProperBlocks.{block-equation}
 use Rattle.sources.specs.Sources.{closedBeside, sources}
 use Rattle.sources.specs.Equations.{knownBeside, plainEquation, plainEquations}
 use Rattle.sources.proofs.ListedSources.{listed-source, source-listed}
 use Rattle.growth.proofs.Partition.{source-in-part, part-has-sources}
 use Rattle.frontier.specs.Frontier.{equationOf, cellsMet, blockOf, frontier}
-use Rattle.frontier.proofs.BlockLaws.{block-equation, source-equation, equation-rearranged, frontier-proper, Origin, equation-origin}
+use Rattle.frontier.proofs.BlockLaws.{source-equation, equation-rearranged, frontier-proper, Origin, equation-origin}
 use Rattle.frontier.proofs.Coverage.{frontier-once}
 use Rattle.rules.specs.Direct.{full, direct}
 use Rattle.rules.specs.AtPosition.{minesWith, fullAt, isMineAt, isContradictoryAt}
@@ -108,7 +110,7 @@ module _ (near : ℕ → List ℕ) (p : List ℕ) (once : (c : ℕ) → nodup (n
     mine-plain : (c : ℕ) → isMineOf (plainEquations near p) c ≡ isMineAt near p c
     mine-plain c =
         any-map (λ (e : BlockEquation). full e && has (e .cells) c) (plainEquation near p) (sources near p)
-        ∙ any-ext (λ d. full (plainEquation near p d) && has (closedBeside near p d) c) (λ d. fullAt near p d && has (closedBeside near p d) c) (sources near p)
+        ∙ any-agree (λ d. full (plainEquation near p d) && has (closedBeside near p d) c) (λ d. fullAt near p d && has (closedBeside near p d) c) (sources near p)
         (λ d m. rw (full-plain d))
 
     -- so many mines are beside an open cell
@@ -120,7 +122,7 @@ module _ (near : ℕ → List ℕ) (p : List ℕ) (once : (c : ℕ) → nodup (n
     safe-plain c = rw (
       mine-plain c,
       any-map (λ (e : BlockEquation). onlyThose (isMineOf (plainEquations near p)) e && has (e .cells) c) (plainEquation near p) (sources near p),
-      any-ext (λ d. onlyThose (isMineOf (plainEquations near p)) (plainEquation near p d) && has (closedBeside near p d) c)
+      any-agree (λ d. onlyThose (isMineOf (plainEquations near p)) (plainEquation near p d) && has (closedBeside near p d) c)
           (λ d. (not (fullAt near p d) && eqb (shows p d) (minesWith near p (isMineAt near p) d)) && has (closedBeside near p d) c) (sources near p)
           (λ d m. rw (full-plain d, mines-plain d, rest-equal d (8 + count (isMineAt near p) (closedBeside near p d)) (count (isMineAt near p) (closedBeside near p d)) refl)),
     )
@@ -137,7 +139,7 @@ module _ (near : ℕ → List ℕ) (p : List ℕ) (once : (c : ℕ) → nodup (n
     contradictory-plain : isContradictory (plainEquations near p) ≡ isContradictoryAt near p
     contradictory-plain =
         any-map (tooFew (isMineOf (plainEquations near p))) (plainEquation near p) (sources near p)
-        ∙ any-ext (λ d. tooFew (isMineOf (plainEquations near p)) (plainEquation near p d))
+        ∙ any-agree (λ d. tooFew (isMineOf (plainEquations near p)) (plainEquation near p d))
         (λ d. ltb (shows p d) (minesWith near p (isMineAt near p) d)) (sources near p)
         (λ d m. rw (full-plain d, mines-plain d, rest-below d (count (isMineAt near p) (closedBeside near p d))) (full-not-fewer d))
 

@@ -1,22 +1,22 @@
 -- What is left of blocks by the marks of the two sweeps is what the direct rule leaves. An equation of the first sweep has all its cells among the mines,
 -- so without them no mine is left, and the test that drops equations after the second sweep drops it too: every equation may be asked once, at the end.
 -- Rests on the laws of all blocks at once. Assumes nothing.
-use mathlib.Core.Path.{_≡_, refl, sym, ap, _∙_}
+use mathlib.Core.Path.{_≡_, sym, ap, _∙_}
 use mathlib.Core.Logic.{inl, inr}
 use mathlib.Core.Bool.{Bool, true, false, not, _&&_, _||_}
 use mathlib.Core.List.{List, [], _∷_, map, map-map, List·Memᴰ, Memᴰ·map}
-use Prim.Native.Nat.{ℕ, _+_, _-_, _≤_, _<_}
+use Prim.Native.Nat.{ℕ, _+_, _-_, _<_}
 use native.Mathlib.Omega.{arith}
-use lib.Dec.{eqb, leb, ltb}
+use lib.Dec.{eqb, ltb}
 use lib.ListN.{length, getD}
 use borrow.Author.Tests.{eqb-true, eq-eqb, ltb-true}
 use Rattle.lists.specs.Lists.{bit, keep, count, all, has, joined}
-use Rattle.lists.proofs.Tests.{Decided, decided}
+use Rattle.lists.proofs.Tests.{Decided, decided, bit-is-zero, not-or}
 use Rattle.lists.proofs.Counts.{count-ext}
 use Rattle.lists.proofs.Rearranged.{count-all}
 use Rattle.lists.proofs.All.{all-has}
 use Rattle.lists.proofs.Kept.{keep-both, keep-map, keep-ext}
-use Rattle.lists.proofs.Unions.{all-of, mem-joined, mem-has, has-mem}
+use Rattle.lists.proofs.Unions.{mem-joined, mem-has, has-mem}
 use Rattle.lists.proofs.Occurrences.{keep-agree}
 use Rattle.lists.proofs.TurnedRound.{map-agree, joined-each-one}
 use Rattle.blocks.specs.Blocks.{BlockEquation, Block}
@@ -25,7 +25,7 @@ use Rattle.blocks.specs.Places.{marked, Marks}
 use Rattle.blocks.proofs.MarkLaws.{marks-has}
 use Rattle.marks.specs.Marked.{Ready, leftEquation, stays, leftEquations, leftBlock, leftBlocks}
 use Rattle.rules.specs.Found.{lessMines, lessSafe}
-use Rattle.rules.specs.Direct.{full, clear, sureMines, afterMines, sureSafe, afterSafe, directLeft}
+use Rattle.rules.specs.Direct.{full, clear, sureMines, sureSafe, afterSafe, directLeft}
 use Rattle.rules.proofs.DirectLaws.{notFull, notClear, equation-cells-of}
 use Rattle.rules.proofs.AllBlocks.{ready-inside, own-mine, own-safe}
 
@@ -62,11 +62,6 @@ module _ (es : List BlockEquation) where
 
 -- ---- a block by its marks
 
--- two tests that both fail
-neither : (a b : Bool) → not (a || b) ≡ (not a && not b)
-neither true b = refl
-neither false b = refl
-
 -- the marks tell the mines and the safe cells of a block
 record Told (mines known : List ℕ) (b : Block) : Type 0 where
   mine : (c : ℕ) → has (b .cells) c ≡ true → marked mines c ≡ has (sureMines (b .equations)) c
@@ -86,7 +81,7 @@ module _ (mines known : List ℕ) (b : Block) (told : Told mines known b) where
       cells : keep (λ c. eqb (getD known c 0) 0) (e .cells) ≡ keep (λ c. not (has ss c)) (keep (λ c. not (has ms c)) (e .cells))
       cells =
           keep-ext (λ c. eqb (getD known c 0) 0) (λ c. not (has ms c) && not (has ss c)) (e .cells)
-          (λ c h. told .unknown c (inside c h) ∙ neither (has ms c) (has ss c))
+          (λ c h. told .unknown c (inside c h) ∙ not-or (has ms c) (has ss c))
           ∙ sym (keep-both (λ c. not (has ss c)) (λ c. not (has ms c)) (e .cells))
 
   -- and of the block what the direct rule leaves
@@ -106,10 +101,6 @@ module _ (mines known : List ℕ) (b : Block) (told : Told mines known b) where
 
 -- ---- all blocks
 
-bit-none : (t : Bool) → eqb (bit t) 0 ≡ not t
-bit-none true = refl
-bit-none false = refl
-
 module _ (bs : List Block) (ready : Ready bs) (below : all (λ c. ltb c 1024) (allCells bs) ≡ true) (mines safe known : List ℕ)
     (mines-marked : Marks mines (sureMines (allEquations bs))) (safe-marked : Marks safe (sureSafe (allEquations bs)))
     (both : (d : ℕ) → d < 1024 → getD known d 0 ≡ bit (marked mines d || marked safe d)) where
@@ -123,7 +114,7 @@ module _ (bs : List Block) (ready : Ready bs) (below : all (λ c. ltb c 1024) (a
       unknown c h =
           let there : has (allCells bs) c ≡ true = mem-has (allCells bs) (mem-joined (has-mem (b .cells) c h) (Memᴰ·map (λ (x : Block). x .cells) m)) in
           ap (λ (n : ℕ). eqb n 0) (both c (ltb-true c 1024 (all-has (λ x. ltb x 1024) (allCells bs) below c there)))
-          ∙ bit-none (marked mines c || marked safe c)
+          ∙ bit-is-zero (marked mines c || marked safe c)
           ∙ rw (mine c h, marks-has safe-marked c ∙ own-safe bs ready b m c h)
 
   -- where mines and safe cells are marked, and known cells are both, what is left by the marks is what the direct rule leaves

@@ -1,20 +1,15 @@
 -- What a rule leaves fits into a block set where its blocks do, whether it meets a contradiction, which leaves none, or not. Rests on the laws of blocks made
 -- smaller and of blocks split anew. Assumes nothing.
-use mathlib.Core.Path.{refl}
 use mathlib.Core.Bool.{Bool, true, false, cond}
 use mathlib.Core.List.{List, [], map}
-use native.Mathlib.Omega.{arith}
 use Rattle.blocks.specs.Blocks.{Block}
 use Rattle.blocks.specs.BlockSets.{Small}
+use Rattle.blocks.proofs.Behind.{none-fits}
 use Rattle.chunks.specs.Chunks.{chunkMatrixes}
 use Rattle.chunks.proofs.Sizes.{chunk-small}
 use Rattle.rules.specs.Direct.{directLeft, direct}
 use Rattle.rules.proofs.DirectLaws.{direct-blocks-left}
 use Rattle.rules.proofs.SmallerBlocks.{direct-fits}
-
--- no blocks
-pub none-fits : Small []
-none-fits = record { few-cells = omega arith; few-equations = omega arith; few-blocks = omega arith; on-board = refl; small = refl }
 
 -- blocks split anew, or none
 pub split-fits : (t : Bool) (bs : List Block) → Small bs → Small (cond t [] (chunkMatrixes bs))

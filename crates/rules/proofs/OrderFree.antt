@@ -4,7 +4,7 @@
 -- with the same equations, in any order of equations and cells, have the same answers. Rests on DirectLaws. Assumes nothing.
 use mathlib.Core.Path.{_≡_, refl, sym, _∙_}
 use mathlib.Core.Logic.{inl, inr}
-use mathlib.Core.Bool.{Bool, true, false, not, cond, _&&_}
+use mathlib.Core.Bool.{Bool, true, false, not, cond, _&&_, and-assoc}
 use mathlib.Core.List.{List, [], List·Memᴰ}
 use Prim.Native.Nat.{ℕ, _+_}
 use native.Mathlib.Omega.{arith}
@@ -15,11 +15,12 @@ use Rattle.lists.proofs.Tests.{Decided, decided, same-test, and-left, and-right
 use Rattle.lists.proofs.Members.{has-keep}
 use Rattle.lists.proofs.Counts.{count-ext}
 use Rattle.lists.proofs.Rearranged.{Rearranged, rearranged-length, rearranged-has}
-use Rattle.lists.proofs.PassingElements.{not-passes, any-mem, mem-any, any-ext, any-none, any-keep, any-map, any-joined-map}
+use Rattle.lists.proofs.PassingElements.{not-passes, any-none, any-keep, any-map, any-joined-map}
 use Rattle.lists.proofs.Among.{joined-once}
+use Rattle.lists.proofs.Occurrences.{any-in, in-any, any-agree}
 use Rattle.blocks.specs.Blocks.{BlockEquation, Block}
 use Rattle.blocks.specs.BlockSets.{allCells, allEquations}
-use Rattle.frontier.proofs.BlockLaws.{block-equation, equation-block, Proper}
+use Rattle.blocks.proofs.ProperBlocks.{block-equation, equation-block, Proper}
 use Rattle.rules.specs.Found.{lessMines, lessSafe}
 use Rattle.rules.specs.Direct.{full, clear, sureMines, afterMines, sureSafe, afterSafe, directLeft, fromLast, direct}
 use Rattle.rules.proofs.TakenOut.{isNegative}
@@ -86,10 +87,6 @@ module _ (es : List BlockEquation) where
       ∙ after-mines-any (λ (e : BlockEquation). clear e && has (e .cells) c)
       ∙ go (decided (isMineOf es c))
     where
-      regroup : (a b d : Bool) → (a && (b && d)) ≡ ((a && b) && d)
-      regroup true b d = refl
-      regroup false b d = refl
-
       left : (e : BlockEquation) → has (lessMines (sureMines es) e .cells) c ≡ (not (isMineOf es c) && has (e .cells) c)
       left e = has-keep (λ x. not (has (sureMines es) x)) (e .cells) c ∙ rw (sure-mines-has c)
 
@@ -98,18 +95,18 @@ module _ (es : List BlockEquation) where
       go (inl h) = rw h (any-none _ es (λ e m. rw (left e, h)
           (not-passes (not (full e) && (clear (lessMines (sureMines es) e) && false)) false
           (λ t. and-right (clear (lessMines (sureMines es) e)) false (and-right (not (full e)) (clear (lessMines (sureMines es) e) && false) t)) refl)))
-      go (inr h) = rw h (any-ext _ _ es (λ e m.
+      go (inr h) = rw h (any-agree _ _ es (λ e m.
           rw (left e, h, less-mines-clear (sureMines es) e, sure-mines-count (e .cells))
-          (regroup (not (full e)) (eqb (e .rest) (8 + count (isMineOf es) (e .cells))) (has (e .cells) c))))
+          (sym (and-assoc (not (full e)) (eqb (e .rest) (8 + count (isMineOf es) (e .cells))) (has (e .cells) c)))))
 
   -- a negative equation left over
   pub after-safe-negative : any isNegative (afterSafe es) ≡ isContradictory es
   after-safe-negative =
       any-map isNegative (lessSafe (sureSafe es)) (keep notClear (afterMines es))
       ∙ any-keep isNegative notClear (afterMines es)
-      ∙ any-ext (λ (e : BlockEquation). not (clear e) && ltb (e .rest) 8) isNegative (afterMines es) (λ e m. below (e .rest))
+      ∙ any-agree (λ (e : BlockEquation). not (clear e) && ltb (e .rest) 8) isNegative (afterMines es) (λ e m. below (e .rest))
       ∙ after-mines-any isNegative
-      ∙ any-ext (λ (e : BlockEquation). not (full e) && ltb (lessMines (sureMines es) e .rest) 8) (tooFew (isMineOf es)) es
+      ∙ any-agree (λ (e : BlockEquation). not (full e) && ltb (lessMines (sureMines es) e .rest) 8) (tooFew (isMineOf es)) es
       (λ e m. rw (less-mines-negative (sureMines es) e, sure-mines-count (e .cells)))
     where
       below : (n : ℕ) → (not (eqb n 8) && ltb n 8) ≡ ltb n 8
@@ -126,14 +123,14 @@ module _ (bs : List Block) (proper : (b : Block) → List·Memᴰ b bs → Prope
       passes e = full e && has (e .cells) c
 
       there : isMineOf (b .equations) c ≡ true → isMineOf (allEquations bs) c ≡ true
-      there t = let (e, n, x) = any-mem passes (b .equations) t in mem-any passes (allEquations bs) e (block-equation bs b e m n) x
+      there t = let (e, n, x) = any-in passes (b .equations) t in in-any passes (allEquations bs) (block-equation bs b e m n) x
 
       back : isMineOf (allEquations bs) c ≡ true → isMineOf (b .equations) c ≡ true
       back t =
-          let (e, n, x) = any-mem passes (allEquations bs) t in
+          let (e, n, x) = any-in passes (allEquations bs) t in
           let (d, k, o) = equation-block bs e n in
           let w : d ≡ b = joined-once (λ (y : Block). y .cells) bs once d b k m c (proper d k .within e o c (and-right (full e) (has (e .cells) c) x)) h in
-          mem-any passes (b .equations) e (rw w at o) x
+          in-any passes (b .equations) (rw w at o) x
 
   -- so an equation of a block has as many mines of the one as of the other
   mines-of-block : (b : Block) → List·Memᴰ b bs → (e : BlockEquation) → List·Memᴰ e (b .equations)
@@ -156,11 +153,11 @@ module _ (bs : List Block) (proper : (b : Block) → List·Memᴰ b bs → Prope
       safe-from : (es : List BlockEquation) → isSafeOf es c ≡ true → (isMineOf es c ≡ false) × ((e : BlockEquation) × List·Memᴰ e es × (passes (isMineOf es) e ≡ true))
       safe-from es t = (
         not-true (isMineOf es c) (and-left (not (isMineOf es c)) (any (passes (isMineOf es)) es) t),
-        any-mem (passes (isMineOf es)) es (and-right (not (isMineOf es c)) (any (passes (isMineOf es)) es) t),
+        any-in (passes (isMineOf es)) es (and-right (not (isMineOf es c)) (any (passes (isMineOf es)) es) t),
       )
 
       from-safe : (es : List BlockEquation) (e : BlockEquation) → isMineOf es c ≡ false → List·Memᴰ e es → passes (isMineOf es) e ≡ true → isSafeOf es c ≡ true
-      from-safe es e x m y = rw (x, mem-any (passes (isMineOf es)) es e m y)
+      from-safe es e x m y = rw (x, in-any (passes (isMineOf es)) es m y)
 
       -- the mines may be those of the block or of all
       same : (b : Block) → List·Memᴰ b bs → (e : BlockEquation) → List·Memᴰ e (b .equations)
@@ -173,7 +170,7 @@ module _ (bs : List Block) (proper : (b : Block) → List·Memᴰ b bs → Prope
 
       there : any (λ (b : Block). isSafeOf (b .equations) c) bs ≡ true → isSafeOf (allEquations bs) c ≡ true
       there t =
-          let (b, m, x) = any-mem (λ (d : Block). isSafeOf (d .equations) c) bs t in
+          let (b, m, x) = any-in (λ (d : Block). isSafeOf (d .equations) c) bs t in
           let (u, (e, n, y)) = safe-from (b .equations) x in
           from-safe (allEquations bs) e (sym (mine-either b m e n (isMineOf (b .equations)) y) ∙ u) (block-equation bs b e m n) (sym (same b m e n) ∙ y)
 
@@ -181,14 +178,14 @@ module _ (bs : List Block) (proper : (b : Block) → List·Memᴰ b bs → Prope
       back t =
           let (u, (e, n, y)) = safe-from (allEquations bs) t in
           let (b, m, o) = equation-block bs e n in
-          mem-any (λ (d : Block). isSafeOf (d .equations) c) bs b m
+          in-any (λ (d : Block). isSafeOf (d .equations) c) bs m
           (from-safe (b .equations) e (mine-either b m e o (isMineOf (allEquations bs)) y ∙ u) o (same b m e o ∙ y))
 
   -- contradictory in some block where it is in all
   some-contradictory : any (λ (b : Block). isContradictory (b .equations)) bs ≡ isContradictory (allEquations bs)
   some-contradictory =
-      any-ext (λ (b : Block). isContradictory (b .equations)) (λ (b : Block). any (tooFew (isMineOf (allEquations bs))) (b .equations)) bs
-      (λ b m. any-ext (tooFew (isMineOf (b .equations))) (tooFew (isMineOf (allEquations bs))) (b .equations) (λ e n. rw (mines-of-block b m e n)))
+      any-agree (λ (b : Block). isContradictory (b .equations)) (λ (b : Block). any (tooFew (isMineOf (allEquations bs))) (b .equations)) bs
+      (λ b m. any-agree (tooFew (isMineOf (b .equations))) (tooFew (isMineOf (allEquations bs))) (b .equations) (λ e n. rw (mines-of-block b m e n)))
       ∙ sym (any-joined-map (tooFew (isMineOf (allEquations bs))) (λ (b : Block). b .equations) bs)
 
   -- ---- the answer of the direct rule
@@ -199,7 +196,7 @@ module _ (bs : List Block) (proper : (b : Block) → List·Memᴰ b bs → Prope
   direct-contradiction-free =
       direct-contradiction bs
       ∙ any-map (λ (b : Block). any isNegative (b .equations)) directLeft bs
-      ∙ any-ext (λ (b : Block). any isNegative (afterSafe (b .equations))) (λ (b : Block). isContradictory (b .equations)) bs
+      ∙ any-agree (λ (b : Block). any isNegative (afterSafe (b .equations))) (λ (b : Block). isContradictory (b .equations)) bs
       (λ b m. after-safe-negative (b .equations))
       ∙ some-contradictory
 
@@ -209,7 +206,7 @@ module _ (bs : List Block) (proper : (b : Block) → List·Memᴰ b bs → Prope
       → has (cond (direct bs .contradiction) [] (fromLast g bs)) c ≡ (not (isContradictory (allEquations bs)) && test (allEquations bs) c)
   listed-free g test c each all =
       unless-listed (direct bs .contradiction) (fromLast g bs) c
-      ∙ rw (direct-contradiction-free, from-last-has g bs c, any-ext (λ (b : Block). has (g b) c) (λ (b : Block). test (b .equations) c) bs (λ b m. each b), all)
+      ∙ rw (direct-contradiction-free, from-last-has g bs c, any-agree (λ (b : Block). has (g b) c) (λ (b : Block). test (b .equations) c) bs (λ b m. each b), all)
 
   -- the mines, where there is no contradiction
   pub direct-mines-free : (c : ℕ) → has (direct bs .mines) c ≡ (not (isContradictory (allEquations bs)) && isMineOf (allEquations bs) c)
@@ -237,8 +234,8 @@ module _ (ds es : List BlockEquation) (same : SameEquations ds es) where
   -- two tests that agree on equations that are alike pass at some equation of both lists or of neither
   same-any : (t u : BlockEquation → Bool) → ((d e : BlockEquation) → Alike d e → t d ≡ u e) → any t ds ≡ any u es
   same-any t u agree = same-test (any t ds) (any u es)
-      (λ h. let (d, m, x) = any-mem t ds h in let (e, n, w) = same .there d m in mem-any u es e n (sym (agree d e w) ∙ x))
-      (λ h. let (e, m, x) = any-mem u es h in let (d, n, w) = same .back e m in mem-any t ds d n (agree d e w ∙ x))
+      (λ h. let (d, m, x) = any-in t ds h in let (e, n, w) = same .there d m in in-any u es n (sym (agree d e w) ∙ x))
+      (λ h. let (e, m, x) = any-in u es h in let (d, n, w) = same .back e m in in-any t ds n (agree d e w ∙ x))
 
   module _ (d e : BlockEquation) (alike : Alike d e) where
     -- they have the same cells

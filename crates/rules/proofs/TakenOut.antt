@@ -18,7 +18,7 @@ use Rattle.lists.proofs.Rearranged.{count-all}
 use Rattle.lists.proofs.PassingElements.{any-none, Each, each-mapped}
 use Rattle.fitting.specs.Equations.{Holds}
 use Rattle.blocks.specs.Blocks.{BlockEquation, Block, says}
-use Rattle.frontier.proofs.BlockLaws.{Proper}
+use Rattle.blocks.proofs.ProperBlocks.{Proper}
 use Rattle.rules.specs.Found.{lessMines, lessSafe}
 use Rattle.rules.specs.Direct.{full}
 

@@ -14,17 +14,13 @@ use Rattle.lists.proofs.All.{all-at}
 use Rattle.lists.proofs.Joined.{read-all, map-range}
 use Rattle.lists.proofs.PassingElements.{any-map, any-joined-map}
 use Rattle.blocks.specs.Blocks.{BlockEquation, Block}
-use Rattle.blocks.specs.BlockSets.{allEquations, blockSet, slotCells, beginAt, equationAt, blockAt, blocksOf, smallEquation, Whole}
+use Rattle.blocks.specs.BlockSets.{allEquations, slotCells, beginAt, equationAt, blocksOf, smallEquation, Whole}
 use Rattle.blocks.specs.Places.{Slots, equationsFrom}
 use Rattle.blocks.specs.declared.BlockSet.{BlockSet}
-use Rattle.blocks.proofs.Reading.{noEquation, noBlock, equation-read, block-read}
-use Rattle.blocks.proofs.Behind.{slots-long, blocks-held, equations-held}
+use Rattle.blocks.proofs.Reading.{noEquation, equation-read}
+use Rattle.blocks.proofs.Behind.{slots-long, equations-held}
 use Rattle.rules.specs.Direct.{negative}
 use Rattle.rules.proofs.TakenOut.{isNegative}
-
--- there are at most 1,024 blocks
-pub few-blocks : (s : BlockSet) → Whole s → s .blocks ≤ 1024
-few-blocks s w = omega (arith, blocks-held s w, w .fits .few-blocks)
 
 -- the equations of the last block end at place n
 module _ (s : BlockSet) (w : Whole s) (n : ℕ) (at : n ≡ beginAt (s .«equation_ends») (s .blocks)) where

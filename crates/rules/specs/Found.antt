@@ -3,7 +3,7 @@ use mathlib.Core.Bool.{Bool, true, false, not}
 use mathlib.Core.List.{List, [], _∷_}
 use Prim.Native.Nat.{ℕ, _-_}
 use Rattle.lists.specs.Lists.{keep, count, has}
-use Rattle.fitting.specs.Passes.{Found as RuleFound}
+use Rattle.fitting.specs.Passes.{GradedCells}
 use Rattle.blocks.specs.Blocks.{BlockEquation, Block}
 use Rattle.frontier.specs.Frontier.{frontier}
 
@@ -30,5 +30,5 @@ abbrev pub lessSafe : List ℕ → BlockEquation → BlockEquation
 lessSafe ss e = record { cells = keep (λ c. not (has ss c)) (e .cells); rest = e .rest }
 
 -- a rule on blocks as a rule at a position, with its grade
-abbrev pub ruleOf : (ℕ → List ℕ) → (List Block → Found) → ℕ → List ℕ → RuleFound
+abbrev pub ruleOf : (ℕ → List ℕ) → (List Block → Found) → ℕ → List ℕ → GradedCells
 ruleOf near rule grade p = record { safe = rule (frontier near p) .safe; mines = rule (frontier near p) .mines; grade = grade }

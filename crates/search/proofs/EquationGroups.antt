@@ -10,8 +10,7 @@ use Rattle.lists.specs.Lists.{count, has}
 use Rattle.lists.proofs.Rearranged.{count-all}
 use Rattle.fitting.proofs.Groups.{total, total-ext, Grouped, grouped-count}
 use Rattle.blocks.specs.Blocks.{BlockEquation, Block}
-use Rattle.frontier.proofs.BlockLaws.{Proper}
-use Rattle.frontier.proofs.Fitting.{saysIn}
+use Rattle.blocks.proofs.ProperBlocks.{Proper, saysIn}
 use Rattle.groups.specs.Groups.{firsts, groups, groupOf, sizes, groupsIn}
 use Rattle.groups.proofs.GroupLaws.{size-at, group-once, group-only, group-of-below, in-own-group, group-in-equation}
 use Rattle.search.specs.Solutions.{sum}

@@ -19,8 +19,7 @@ use Rattle.lists.proofs.PlacesAndRanges.{map-read}
 use Rattle.lists.proofs.ReadBack.{range-made}
 use Rattle.fitting.proofs.Groups.{total, total-ext, Row, solution-row, row-solution}
 use Rattle.blocks.specs.Blocks.{BlockEquation, Block}
-use Rattle.frontier.proofs.BlockLaws.{Proper}
-use Rattle.frontier.proofs.Fitting.{saysIn, Solves}
+use Rattle.blocks.proofs.ProperBlocks.{Proper, saysIn, Solves}
 use Rattle.groups.specs.Groups.{firsts, groups, sizes, groupsIn}
 use Rattle.groups.proofs.GroupLaws.{groups-many, sizes-long, size-at}
 use Rattle.search.specs.Solutions.{sum, meetsRest, solves, solutions}

@@ -34,11 +34,6 @@ kept-set {gs} a g v h = record {
 
 -- ---- rows put into values
 
-pub length-placed : (values gs row : List ℕ) → length (placed values gs row) ≡ length values
-length-placed values [] row = refl
-length-placed values (g ∷ gs) [] = refl
-length-placed values (g ∷ gs) (v ∷ row) = length-placed (set values g v) gs row ∙ length-set values g v
-
 kept-next : {gs a b : List ℕ} (g v : ℕ) → Kept (g ∷ gs) a b → Kept gs (set a g v) (set b g v)
 kept-next {gs} {a} {b} g v h = record {
   whole = length-set b g v ∙ h .whole ∙ sym (length-set a g v);

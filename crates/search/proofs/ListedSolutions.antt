@@ -19,7 +19,7 @@ use Rattle.lists.proofs.CountsAlike.{counts-map, counts-ext, counts-zero}
 use Rattle.lists.proofs.TurnedRound.{map-agree}
 use Rattle.lists.proofs.PartedLists.{same-equal, same-self, count-same-kept, none-kept}
 use Rattle.blocks.specs.Blocks.{BlockEquation, Block}
-use Rattle.frontier.proofs.BlockLaws.{Proper}
+use Rattle.blocks.proofs.ProperBlocks.{Proper}
 use Rattle.groups.specs.Groups.{column, firsts, sizes, groupsIn}
 use Rattle.groups.specs.Grouping.{grouped}
 use Rattle.groups.proofs.GroupLaws.{sizes-long, first-equation}

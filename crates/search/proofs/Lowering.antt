@@ -2,7 +2,7 @@
 -- loops that do it: what is still to be lowered or raised, from here on, gives what the whole gives. And a value that is possible cuts nothing off. Assumes nothing.
 use mathlib.Core.Path.{_≡_, refl, sym, ap, _∙_}
 use mathlib.Core.Logic.{_≢_}
-use mathlib.Core.Bool.{Bool, true, false, _&&_}
+use mathlib.Core.Bool.{Bool, true, false, _&&_, and-false}
 use mathlib.Core.List.{List, [], _∷_}
 use Prim.Native.Nat.{ℕ, _+_, _-_, _*_, _≤_, _<_}
 use native.Mathlib.Omega.{arith}
@@ -17,12 +17,9 @@ use Rattle.lists.proofs.All.{all-head, all-tail, all-implied, has-all, all-has}
 use Rattle.lists.proofs.Elements.{set-all}
 use Rattle.search.specs.Trees.{lowered, possible}
 use Rattle.search.specs.Searching.{raised, State}
+use Rattle.search.proofs.TreeLaws.{lowered-length}
 
 -- ---- lowered
-
-pub length-lowered : (v : ℕ) (es l : List ℕ) → length (lowered v es l) ≡ length l
-length-lowered v [] l = refl
-length-lowered v (e ∷ es) l = length-lowered v es (set l e (getD l e 0 - v)) ∙ length-set l e (getD l e 0 - v)
 
 -- no number grows
 pub lowered-less : (v : ℕ) (es l : List ℕ) (i : ℕ) → getD (lowered v es l) i 0 ≤ getD l i 0
@@ -130,11 +127,7 @@ module _ (size : ℕ) (needs rooms : List ℕ) (v e : ℕ) where
   takes-less h = rw (lt-leb v (getD needs e 0) h)
 
   pub takes-more : v + getD rooms e 0 < getD needs e 0 + size → takes size needs rooms v e ≡ false
-  takes-more h = rw (lt-leb (getD needs e 0 + size) (v + getD rooms e 0) h) (off (leb v (getD needs e 0)))
-    where
-      off : (t : Bool) → (t && false) ≡ false
-      off true = refl
-      off false = refl
+  takes-more h = rw (lt-leb (getD needs e 0 + size) (v + getD rooms e 0) h) (and-false (leb v (getD needs e 0)))
 
   pub takes-both : v ≤ getD needs e 0 → getD needs e 0 + size ≤ v + getD rooms e 0 → takes size needs rooms v e ≡ true
   takes-both h k = rw (le-leb v (getD needs e 0) h) (le-leb (getD needs e 0 + size) (v + getD rooms e 0) k)
@@ -160,8 +153,8 @@ module _ (size : ℕ) (es needs rooms : List ℕ) (v : ℕ) where
 pub state-lowered : {equations : ℕ} {needs rooms : List ℕ} (v size : ℕ) (es : List ℕ) → State equations needs rooms → State equations (lowered v es needs) (lowered size es rooms)
 state-lowered {equations} {needs} {rooms} v size es s =
     record {
-      whole-needs = length-lowered v es needs ∙ s .whole-needs;
-      whole-rooms = length-lowered size es rooms ∙ s .whole-rooms;
+      whole-needs = lowered-length v es needs ∙ s .whole-needs;
+      whole-rooms = lowered-length size es rooms ∙ s .whole-rooms;
       needs-small = λ e. omega (arith, lowered-less v es needs e, s .needs-small e);
       rooms-small = λ e. omega (arith, lowered-less size es rooms e, s .rooms-small e);
       past = λ e h. omega (arith, lowered-less v es needs e, s .past e h);

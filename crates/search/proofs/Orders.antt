@@ -168,10 +168,10 @@ module _ (order : List ℕ) (n : ℕ) (o : EachOnce order n) where
 
 -- ---- values set in an order
 
-pub placed-length : (values gs row : List ℕ) → length (placed values gs row) ≡ length values
-placed-length values [] row = refl
-placed-length values (g ∷ gs) [] = refl
-placed-length values (g ∷ gs) (v ∷ row) = placed-length (set values g v) gs row ∙ length-set values g v
+pub length-placed : (values gs row : List ℕ) → length (placed values gs row) ≡ length values
+length-placed values [] row = refl
+length-placed values (g ∷ gs) [] = refl
+length-placed values (g ∷ gs) (v ∷ row) = length-placed (set values g v) gs row ∙ length-set values g v
 
 -- a group that is not among them keeps its value
 pub placed-other : (values gs row : List ℕ) (c : ℕ) → has gs c ≡ false → getD (placed values gs row) c 0 ≡ getD values c 0
@@ -203,7 +203,7 @@ placed-by-group values order row n o h w =
     ext-getD 0 (take n (placed values order row)) (byGroup order row) (long ∙ sym (by-group-length order n o row)) (λ g l. one g (omega (arith, long)))
   where
     long : length (take n (placed values order row)) ≡ n
-    long = length-take-le n (placed values order row) (omega (arith, placed-length values order row))
+    long = length-take-le n (placed values order row) (omega (arith, length-placed values order row))
 
     one : (g : ℕ) → g < n → getD (take n (placed values order row)) g 0 ≡ getD (byGroup order row) g 0
     one g l =

@@ -24,7 +24,7 @@ use Rattle.lists.proofs.Occurrences.{kept-in, in-kept, keep-agree, all-in, in-a
 use Rattle.lists.proofs.PlacesAndRanges.{all-places}
 use Rattle.blocks.specs.Blocks.{BlockEquation, Block}
 use Rattle.blocks.specs.BlockSets.{slotCells}
-use Rattle.frontier.proofs.BlockLaws.{Proper}
+use Rattle.blocks.proofs.ProperBlocks.{Proper}
 use Rattle.groups.specs.Groups.{noCells, firsts, sizes, groupsIn}
 use Rattle.groups.specs.Grouping.{Combinable, grouped}
 use Rattle.groups.proofs.GroupLaws.{sizes-long, firsts-some, combinable-proper}
@@ -57,6 +57,11 @@ searched b order = treeAt order (grouped b .groups) (grouped b .sizes) (grouped 
 -- with the first of them at k values from v up
 abbrev pub searchedFrom : Block → List ℕ → ℕ → ℕ → List (List ℕ)
 searchedFrom b order v k = treeFrom order (grouped b .groups) (grouped b .sizes) (grouped b .columns) 0 v k (grouped b .needs) (grouped b .rooms)
+
+-- the array with the order by weight begins with it
+pub weighed-front : (b : Block) → Combinable b → take (grouped b .groups) (pad 1024 0 (weighed b)) ≡ weighed b
+weighed-front b c =
+    ap (λ (n : ℕ). take n (pad 1024 0 (weighed b))) (groups-read b ∙ sym (weighed-each-once b (combinable-proper b c) .long)) ∙ pad-take 1024 0 (weighed b)
 
 module _ (b : Block) (c : Combinable b) (positive : grouped b .negative ≡ false) where
   proper : Proper b
@@ -152,12 +157,9 @@ module _ (b : Block) (c : Combinable b) (positive : grouped b .negative ≡ fals
   pub tree-solutions : map (byGroup (weighed b)) (searched b (pad 1024 0 (weighed b))) ≡ solutions b
   unfolding treeAt solutions
   tree-solutions =
-      ap (λ (gs : List ℕ). map (byGroup (weighed b)) (tree (sizeAt b) (slotCells (grouped b .columns)) gs (grouped b .needs) (grouped b .rooms))) front
+      ap (λ (gs : List ℕ). map (byGroup (weighed b)) (tree (sizeAt b) (slotCells (grouped b .columns)) gs (grouped b .needs) (grouped b .rooms))) (weighed-front b c)
       ∙ ap (map (byGroup (weighed b))) (tree-solved (weighed b) (weighed-each-once b proper))
       ∙ sym (keep-map (byGroup (weighed b)) (solves b) (valuesIn b (weighed b)))
-    where
-      front : take (grouped b .groups) (pad 1024 0 (weighed b)) ≡ weighed b
-      front = ap (λ (n : ℕ). take n (pad 1024 0 (weighed b))) (groups-read b ∙ sym (weighed-each-once b proper .long)) ∙ pad-take 1024 0 (weighed b)
 
   -- so there are as many
   pub tree-solutions-length : length (searched b (pad 1024 0 (weighed b))) ≡ length (solutions b)

@@ -17,10 +17,11 @@ use Rattle.lists.proofs.Members.{in-range, range-in}
 use Rattle.lists.proofs.Unions.{all-of, has-mem, mem-has, mem-joined, joined-mem}
 use Rattle.lists.proofs.Kept.{keep-all, keep-map}
 use Rattle.lists.proofs.Joined.{map-ext}
-use Rattle.lists.proofs.CountsAlike.{counts-append, counts-map, counts-zero}
+use Rattle.lists.proofs.CountsAlike.{counts-map, counts-zero}
 use Rattle.lists.proofs.TurnedRound.{keep-joined, joined-keep}
 use Rattle.lists.proofs.PlacesAndRanges.{range-part}
 use Rattle.lists.proofs.PartedLists.{none-kept}
+use Rattle.lists.proofs.Counts.{count-append}
 use Rattle.search.specs.Solutions.{vectors}
 use Rattle.search.specs.TableRows.{precedes, inOrder}
 
@@ -109,7 +110,7 @@ from-count v row a zero ns = sym (go (decided (leb a v)))
     go (inl e) = rw (e, le-ltb v (a + 0) (omega (arith, leb-true a v e)))
     go (inr e) = rw e
 from-count v row a (suc k) ns =
-    counts-append (same (v ∷ row)) (map (λ (r : List ℕ). a ∷ r) (vectors ns)) (vectorsFrom (suc a) k ns)
+    count-append (same (v ∷ row)) (map (λ (r : List ℕ). a ∷ r) (vectors ns)) (vectorsFrom (suc a) k ns)
     ∙ rw (heads-count v row a (vectors ns), from-count v row (suc a) k ns) (go (decided (eqb v a)) (decided (leb a v)))
   where
     shift : ltb v (suc a + k) ≡ ltb v (a + suc k)

@@ -1,27 +1,25 @@
 -- The parts of a block set as the code reads them for its text: numbers between two places, an equation's cells in a list of eight, the ends of a block, and all blocks by
 -- their places. A block set that is whole has no end past its arrays. And the writes that make up an equation, a block and all blocks. Rests on the laws of joined lists,
 -- and of texts written one behind the other. Assumes nothing.
-use Prim.Native.Nat.{ℕ, zero, suc, _+_, _-_, _*_, _≤_, _<_}
-use mathlib.Core.Path.{_≡_, refl, sym, ap, subst, _∙_}
-use mathlib.Core.Bool.{Bool, true, false, cond}
+use Prim.Native.Nat.{ℕ, zero, suc, _+_, _-_, _≤_, _<_}
+use mathlib.Core.Path.{_≡_, sym, ap, subst, _∙_}
 use mathlib.Core.List.{List, [], _∷_, _++_, map}
 use native.Mathlib.Omega.{arith}
-use lib.Dec.{eqb}
-use lib.ListN.{length, getD, take, drop, length-append, length-take, length-map}
+use lib.ListN.{length, getD, length-append, length-map}
 use borrow.Author.Tests.{lt-ltb, le-ltb}
 use Rattle.lists.specs.Lists.{range, joined, pad}
 use Rattle.lists.proofs.Members.{range-more, range-none}
 use Rattle.lists.proofs.Rearranged.{length-range}
 use Rattle.lists.proofs.Arrays.{length-pad, pad-read}
-use Rattle.lists.proofs.Joined.{read-all}
-use Rattle.lists.proofs.Joined.{joined-map-map}
+use Rattle.lists.proofs.Joined.{read-all, joined-map-map}
 use Rattle.grid.specs.Window.{listed}
 use Rattle.grid.specs.declared.window.Neighbours.{Neighbours}
 use Rattle.blocks.specs.Blocks.{Block}
-use Rattle.blocks.specs.BlockSets.{before, slotCells, beginAt, endsFrom, slotsOf, allCells, allEquations, blockSet, blockAt, blocksOf, Small, Whole}
+use Rattle.blocks.specs.BlockSets.{slotCells, beginAt, endsFrom, slotsOf, allCells, allEquations, blockSet, blockAt, blocksOf, Small, Whole}
 use Rattle.blocks.specs.declared.BlockSet.{BlockSet}
 use Rattle.blocks.proofs.Slots.{length-all-slots}
 use Rattle.blocks.proofs.Ends.{endsOf}
+use Rattle.blocks.proofs.Between.{slots-eight}
 use Rattle.text.specs.Text.{decimal, Written}
 use Rattle.text.proofs.Writing.{written-within, written-both}
 use Rattle.show.specs.Blocks.{nextNumber, numbersIn, numbersText, remainderText, equationIn, equationText, blockIn, blockText, blocksText, Inside}
@@ -50,21 +48,9 @@ module _ (n rest : ℕ) (e : n ≡ rest) where
 
 -- ---- an equation's cells
 
-length-before : (x : ℕ) (l : List ℕ) → length (before x l) ≤ length l
-length-before x [] = omega arith
-length-before x (y ∷ l) = go (eqb y x) (length-before x l)
-  where
-    go : (t : Bool) → length (before x l) ≤ length l → length (cond t [] (y ∷ before x l)) ≤ suc (length l)
-    go true h = omega arith
-    go false h = omega arith
-
-few-slot-cells : (slots : List ℕ) (e : ℕ) → length (slotCells slots e) ≤ 8
-unfolding slotCells
-few-slot-cells slots e = omega (arith, length-before 65535 (take 8 (drop (e * 8) slots)), length-take 8 (drop (e * 8) slots))
-
 -- the list of eight that holds them, with its count
 pub listed-fits : (slots : List ℕ) (e : ℕ) (list : Neighbours) → list ≡ listed (slotCells slots e) → list .len ≤ length (list .cells)
-listed-fits slots e list h = rw h (omega (arith, few-slot-cells slots e, length-pad 8 0 (slotCells slots e) (few-slot-cells slots e)))
+listed-fits slots e list h = rw h (omega (arith, slots-eight slots e, length-pad 8 0 (slotCells slots e) (slots-eight slots e)))
 
 -- read back
 listed-numbers : (l : List ℕ) → numbersIn (listed l .cells) 0 (listed l .len) ≡ l
@@ -90,12 +76,7 @@ small-inside bs s k h = record {
   equations-end = omega (arith, s .few-equations, end-padded (λ (b : Block). b .equations) bs k);
 }
 
--- a whole block set has at most as many blocks as its arrays have places
-pub whole-few : (s : BlockSet) → Whole s → s .blocks ≤ 1024
-unfolding blockSet
-whole-few s w = omega (arith, ap (λ (t : BlockSet). t .blocks) (w .is), w .fits .few-blocks)
-
--- and each of them ends inside the arrays
+-- each block of a whole set ends inside the arrays
 pub whole-inside : (s : BlockSet) → Whole s → (k : ℕ) → k < s .blocks → Inside (s .cells) (s .«cell_ends») (s .slots) (s .«equation_ends») k
 whole-inside s w =
     subst

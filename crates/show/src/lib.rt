@@ -4,6 +4,7 @@ use blocks::BlockSet;
 use blocks::begin_at;
 use blocks::slots_at;
 use grid::window::wide;
+use grid::window::wide_byte;
 use refusals::Refusal;
 use refusals::refusal_number;
 use text::put_byte;
@@ -20,13 +21,6 @@ ghost use Rattle.blocks.specs.BlockSets.{blocksOf, Whole};
 ghost use Rattle.show.specs.Blocks.{nextNumber, numbersIn, numbersText, remainderText, equationIn, equationText, blockIn, blockText, blocksText, Inside};
 ghost use Rattle.show.specs.Cells.{cellsText};
 ghost use Rattle.show.specs.Refusals.{refusedText};
-
-// A byte, as wide as a place.
-fn wide_byte(x: u8) -> usize
-    ensures { λ r. ⌜ r ≡ x ⌝ }
-{
-    x as usize
-}
 
 // A byte and a number behind it.
 fn put_marked(out: &mut [u8], at: usize, mark: u8, number: usize) -> usize

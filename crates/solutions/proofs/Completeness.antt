@@ -24,10 +24,11 @@ use Rattle.fitting.specs.Rules.{Sound, Complete}
 use Rattle.fitting.proofs.Rules.{sound-orElse, complete-orElse}
 use Rattle.blocks.specs.Blocks.{Block}
 use Rattle.blocks.specs.BlockSets.{allCells}
+use Rattle.blocks.proofs.ProperBlocks.{cell-block, Solves}
 use Rattle.frontier.specs.Frontier.{frontier}
-use Rattle.frontier.proofs.BlockLaws.{cell-block, frontier-proper}
+use Rattle.frontier.proofs.BlockLaws.{frontier-proper}
 use Rattle.frontier.proofs.Coverage.{beside-open-frontier}
-use Rattle.frontier.proofs.Fitting.{Solves, fits-solves-block, solutions-force, solutions-allow}
+use Rattle.frontier.proofs.Fitting.{fits-solves-block, solutions-force, solutions-allow}
 use Rattle.rules.specs.Found.{Found, ruleOf}
 use Rattle.rules.specs.Direct.{direct}
 use Rattle.rules.proofs.Answers.{answer-alone}

@@ -22,8 +22,7 @@ use Rattle.lists.proofs.PlacesAndRanges.{map-read}
 use Rattle.lists.proofs.PartedLists.{all-not}
 use Rattle.fitting.proofs.Groups.{Row, row-solution, row-safe, row-mine, row-has-mine}
 use Rattle.blocks.specs.Blocks.{Block}
-use Rattle.frontier.proofs.BlockLaws.{Proper}
-use Rattle.frontier.proofs.Fitting.{saysIn, Solves}
+use Rattle.blocks.proofs.ProperBlocks.{Proper, saysIn, Solves}
 use Rattle.groups.specs.Groups.{firsts, groups, groupOf, sizes}
 use Rattle.groups.proofs.GroupLaws.{groups-many, size-at, group-below, group-only, group-of-block, group-of-below, in-own-group, groups-rearranged}
 use Rattle.search.specs.Solutions.{solutions}

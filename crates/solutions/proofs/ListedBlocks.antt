@@ -9,9 +9,9 @@ use native.Mathlib.Nat.{zero-add}
 use native.Mathlib.Omega.{arith}
 use lib.ListN.{length, getD, drop, replicate}
 use lib.Seq.{sets}
-use Rattle.lists.specs.Lists.{empty, joined, pad}
-use Rattle.lists.proofs.Arrays.{pad-nil, drop-more, drop-none}
-use Rattle.lists.proofs.Joined.{pad-sets}
+use Rattle.lists.specs.Lists.{empty, joined}
+use Rattle.lists.proofs.Arrays.{drop-more, drop-none}
+use Rattle.lists.proofs.Joined.{filled-sets}
 use Rattle.lists.proofs.Unions.{mem-at}
 use Rattle.lists.proofs.Among.{among-length, joined-among}
 use Rattle.lists.proofs.Storing.{Storing, storing-start}
@@ -43,10 +43,6 @@ pub record ListedSoFar (bs : List Block) (safe : List ℕ) (safeCount : ℕ) (mi
   pub safe-so-far : Storing 1024 1 (λ (x : ℕ). x ∷ []) (replicate 1024 0) 0 (joined (map safeCells bs)) safe safeCount (joined (map safeCells rest))
   pub mines-so-far : Storing 1024 1 (λ (x : ℕ). x ∷ []) (replicate 1024 0) 0 (joined (map mineCells bs)) mines mineCount (joined (map mineCells rest))
   pub solvable-so-far : unsolvable bs ≡ unsolvable rest
-
--- an array of zeros with a list at its front
-front-filled : (l : List ℕ) → length l ≤ 1024 → sets (replicate 1024 0) 0 l ≡ pad 1024 0 l
-front-filled l h = ap (λ (a : List ℕ). sets a 0 l) (pad-nil 1024 0) ∙ pad-sets 1024 0 [] l (omega arith)
 
 module _ {s : BlockSet} (w : Whole s) (combinable : (b : Block) → List·Memᴰ b (blocksOf s) → Combinable b) where
   abbrev bs : List Block
@@ -168,8 +164,8 @@ module _ {s : BlockSet} (w : Whole s) (combinable : (b : Block) → List·Memᴰ
         safe-end .1,
         mines-end .0,
         mines-end .1,
-        front-filled (joined (map safeCells bs)) safe-few,
-        front-filled (joined (map mineCells bs)) mines-few,
+        filled-sets 1024 0 (joined (map safeCells bs)) safe-few,
+        filled-sets 1024 0 (joined (map mineCells bs)) mines-few,
         zero-add (length (joined (map safeCells bs))),
         zero-add (length (joined (map mineCells bs))),
         solvable,

@@ -2,11 +2,11 @@
 -- one finds nothing. Assumes nothing.
 use mathlib.Core.List.{List}
 use Prim.Native.Nat.{ℕ}
-use Rattle.fitting.specs.Passes.{Found, orElse}
+use Rattle.fitting.specs.Passes.{GradedCells, orElse}
 use Rattle.rules.specs.Found.{ruleOf}
 use Rattle.rules.specs.Direct.{direct}
 use Rattle.subtraction.specs.Minus.{subtraction}
 use Rattle.solutions.specs.Enumeration.{enumerated}
 
-abbrev pub threeRules : (ℕ → List ℕ) → List ℕ → Found
+abbrev pub threeRules : (ℕ → List ℕ) → List ℕ → GradedCells
 threeRules near = orElse (ruleOf near direct 1) (orElse (ruleOf near subtraction 2) (ruleOf near enumerated 3))

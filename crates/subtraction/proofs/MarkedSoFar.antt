@@ -2,7 +2,7 @@
 -- the elements still to come mark, are the marks at the start with what all elements mark. So at the end a cell is marked if it was at the start or one of
 -- the elements marks it. Assumes nothing.
 use mathlib.Core.Path.{_≡_, refl, sym, ap, _∙_}
-use mathlib.Core.Bool.{Bool, true, false, _||_}
+use mathlib.Core.Bool.{Bool, true, false, _||_, or-false}
 use mathlib.Core.List.{List, [], _∷_}
 use Prim.Native.Nat.{ℕ}
 use Rattle.lists.specs.Lists.{any}
@@ -15,10 +15,6 @@ pub record MarkedSoFar {A : Type 0} (marks : ℕ → A → Bool) (start : List �
 or-regroup : (a b c : Bool) → ((a || b) || c) ≡ (a || (b || c))
 or-regroup true b c = refl
 or-regroup false b c = refl
-
-or-nothing : (a : Bool) → (a || false) ≡ a
-or-nothing true = refl
-or-nothing false = refl
 
 module _ {A : Type 0} (marks : ℕ → A → Bool) (start : List ℕ) (all : List A) where
   -- before the first turn
@@ -39,8 +35,8 @@ module _ {A : Type 0} (marks : ℕ → A → Bool) (start : List ℕ) (all : Lis
 
       -- the next element marks nothing
       pub marked-pass : ((d : ℕ) → marks d x ≡ false) → MarkedSoFar marks start all here r
-      marked-pass none = marked-next here (λ d. sym (ap (λ (t : Bool). marked here d || t) (none d) ∙ or-nothing (marked here d)))
+      marked-pass none = marked-next here (λ d. sym (ap (λ (t : Bool). marked here d || t) (none d) ∙ or-false (marked here d)))
 
     -- after the last turn
     pub marked-end : rest ≡ [] → (d : ℕ) → marked here d ≡ (marked start d || any (marks d) all)
-    marked-end none d = sym (ap (λ (l : List A). marked here d || any (marks d) l) none ∙ or-nothing (marked here d)) ∙ sofar .at d
+    marked-end none d = sym (ap (λ (l : List A). marked here d || any (marks d) l) none ∙ or-false (marked here d)) ∙ sofar .at d

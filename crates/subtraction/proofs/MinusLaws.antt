@@ -15,13 +15,14 @@ use Rattle.lists.proofs.Tests.{Decided, decided, clash, and-left, and-right, or
 use Rattle.lists.proofs.Members.{kept-passes, has-kept}
 use Rattle.lists.proofs.Counts.{count-append}
 use Rattle.lists.proofs.Unions.{append-cases}
-use Rattle.lists.proofs.PassingElements.{any-mem, each-kept, each-mapped}
+use Rattle.lists.proofs.PassingElements.{each-kept, each-mapped}
 use Rattle.lists.proofs.Among.{Among, among-left, among-right, keep-both-among, joined-reverse, joined-keep-among, joined-among, joined-both}
+use Rattle.lists.proofs.Occurrences.{any-in}
 use Rattle.fitting.proofs.Equations.{Exceeds, subtract-mines, subtract-safe}
 use Rattle.blocks.specs.Blocks.{BlockEquation, Block, says}
 use Rattle.blocks.specs.BlockSets.{allCells, allEquations}
+use Rattle.blocks.proofs.ProperBlocks.{Proper}
 use Rattle.chunks.specs.Chunks.{chunkMatrixes}
-use Rattle.frontier.proofs.BlockLaws.{Proper}
 use Rattle.rules.specs.Found.{contradicted, lessMines, lessSafe}
 use Rattle.rules.specs.Direct.{fromLast, direct}
 use Rattle.rules.proofs.TakenOut.{taken-out-proper, SolvedBy, SolvesAll, solves-less-mines, solves-less-safe, RestCovers, RestsCover, covers-less-mines, covers-less-safe}
@@ -43,8 +44,8 @@ pub record Pair (t : BlockEquation → BlockEquation → Bool) (es : List BlockE
 -- where some pair passes there is one
 pub some-pair : (t : BlockEquation → BlockEquation → Bool) (es : List BlockEquation) → somePair t es ≡ true → Pair t es
 some-pair t es h =
-    let (d, m, x) = any-mem (λ (e : BlockEquation). any (λ (f : BlockEquation). exceeds e f && t e f) es) es h in
-    let (e, n, y) = any-mem (λ (f : BlockEquation). exceeds d f && t d f) es x in
+    let (d, m, x) = any-in (λ (e : BlockEquation). any (λ (f : BlockEquation). exceeds e f && t e f) es) es h in
+    let (e, n, y) = any-in (λ (f : BlockEquation). exceeds d f && t d f) es x in
     record {
       first = d;
       second = e;

@@ -2,7 +2,7 @@
 -- cell stands in two blocks, the marks at a cell of a block are those of its own pairs. So the marked cells are the lists of the rule, and what is left by
 -- the marks is what the rule leaves. Rests on the laws of ready blocks. Assumes nothing.
 use mathlib.Core.Path.{_≡_, refl, sym, ap, _∙_}
-use mathlib.Core.Bool.{Bool, true, false, not, cond, _&&_, _||_}
+use mathlib.Core.Bool.{true, false, not, cond, _&&_, _||_, and-true}
 use mathlib.Core.List.{List, [], _∷_, map, map-map, reverse, List·Memᴰ}
 use Prim.Native.Nat.{ℕ, _<_}
 use lib.Dec.{eqb, ltb}
@@ -28,6 +28,7 @@ use Rattle.subtraction.proofs.ReadyBlocks.{ReadyBlock, ready-block}
 use Rattle.lists.proofs.Among.{among-has}
 use Rattle.lists.proofs.TurnedRound.{map-agree, map-joined}
 use Rattle.lists.proofs.ListsOfElements.{one-among, any-one, joined-unless}
+use Rattle.lists.proofs.Tests.{bit-is-zero, not-or}
 
 -- before the first mark nothing is marked
 pub none-marked : (n d : ℕ) → marked (replicate n 0) d ≡ false
@@ -47,19 +48,15 @@ module _ (b : Block) (ready : ReadyBlock b) (c : ℕ) where
       let w = some-pair (λ e f. has (ownCells f e) c) (b .equations) h in
       ready .inside (w .second) (w .second-listed) c (kept-has (λ x. not (has (w .first .cells) x)) (w .second .cells) c (w .passes))
 
-both-true : (t : Bool) → (t && true) ≡ t
-both-true true = refl
-both-true false = refl
-
 -- a cell of the block that they mark is in the block's list
 module _ (b : Block) (c : ℕ) (h : has (b .cells) c ≡ true) where
   mines-listed : has (minusMines b) c ≡ minesOf (b .equations) c
   unfolding minusMines
-  mines-listed = has-keep (minesOf (b .equations)) (b .cells) c ∙ rw h (both-true (minesOf (b .equations) c))
+  mines-listed = has-keep (minesOf (b .equations)) (b .cells) c ∙ rw h (and-true (minesOf (b .equations) c))
 
   safe-listed : has (minusSafe b) c ≡ safeOf (b .equations) c
   unfolding minusSafe
-  safe-listed = has-keep (safeOf (b .equations)) (b .cells) c ∙ rw h (both-true (safeOf (b .equations) c))
+  safe-listed = has-keep (safeOf (b .equations)) (b .cells) c ∙ rw h (and-true (safeOf (b .equations) c))
 
 -- ---- the marks of all blocks
 
@@ -101,14 +98,6 @@ module _ (bs : List Block) (ready : Ready bs) (mines safe : List ℕ)
 
   module _ (below : all (λ c. ltb c 1024) (allCells bs) ≡ true) (known : List ℕ)
       (known-are : (d : ℕ) → d < 1024 → getD known d 0 ≡ bit (marked mines d || marked safe d)) where
-    bit-none : (t : Bool) → eqb (bit t) 0 ≡ not t
-    bit-none true = refl
-    bit-none false = refl
-
-    not-either : (x y : Bool) → not (x || y) ≡ (not x && not y)
-    not-either true y = refl
-    not-either false y = refl
-
     module _ (b : Block) (m : List·Memᴰ b bs) where
       on-board : (c : ℕ) → has (b .cells) c ≡ true → c < 1024
       on-board c h =
@@ -119,7 +108,7 @@ module _ (bs : List Block) (ready : Ready bs) (mines safe : List ℕ)
       unknown : (c : ℕ) → has (b .cells) c ≡ true → eqb (getD known c 0) 0 ≡ not (has (minusMines b) c || has (minusSafe b) c)
       unknown c h =
           ap (λ (n : ℕ). eqb n 0) (known-are c (on-board c h))
-          ∙ bit-none (marked mines c || marked safe c)
+          ∙ bit-is-zero (marked mines c || marked safe c)
           ∙ rw (mine-marked b m c h, safe-marked b m c h)
 
       -- an equation without the known cells
@@ -128,7 +117,7 @@ module _ (bs : List Block) (ready : Ready bs) (mines safe : List ℕ)
           let own = ready-block bs ready b m .inside e n in
           let cells : keep (λ c. eqb (getD known c 0) 0) (e .cells) ≡ keep (λ c. not (has (minusSafe b) c)) (keep (λ c. not (has (minusMines b) c)) (e .cells)) =
           keep-ext (λ c. eqb (getD known c 0) 0) (λ c. not (has (minusMines b) c) && not (has (minusSafe b) c)) (e .cells)
-          (λ c h. unknown c (own c h) ∙ not-either (has (minusMines b) c) (has (minusSafe b) c))
+          (λ c h. unknown c (own c h) ∙ not-or (has (minusMines b) c) (has (minusSafe b) c))
           ∙ sym (keep-both (λ c. not (has (minusSafe b) c)) (λ c. not (has (minusMines b) c)) (e .cells)) in
           let fewer : count (marked mines) (e .cells) ≡ count (has (minusMines b)) (e .cells) =
           count-ext (marked mines) (has (minusMines b)) (e .cells) (λ c h. mine-marked b m c (own c h)) in

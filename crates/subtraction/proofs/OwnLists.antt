@@ -2,14 +2,14 @@
 -- holds them tells what the rule says of the blocks (`Subtracts`). Rests on the laws of the marks and of where blocks stand in a set. Assumes nothing.
 use mathlib.Core.Path.{_≡_, ap, _∙_}
 use mathlib.Core.Bool.{_||_}
-use mathlib.Core.List.{List, []}
+use mathlib.Core.List.{List}
 use Prim.Native.Nat.{ℕ, _≤_, _<_}
 use native.Mathlib.Omega.{arith}
 use lib.ListN.{length, getD, replicate}
 use lib.Seq.{sets}
 use Rattle.lists.specs.Lists.{range, bit, keep, any, pad}
-use Rattle.lists.proofs.Arrays.{length-pad, pad-nil}
-use Rattle.lists.proofs.Joined.{pad-sets}
+use Rattle.lists.proofs.Arrays.{length-pad}
+use Rattle.lists.proofs.Joined.{filled-sets}
 use Rattle.blocks.specs.Blocks.{BlockEquation, Block}
 use Rattle.blocks.specs.BlockSets.{blocksOf, Whole}
 use Rattle.blocks.specs.Places.{marked}
@@ -23,10 +23,6 @@ use Rattle.subtraction.proofs.ReadyBlocks.{mines-room, safe-room}
 use Rattle.subtraction.proofs.SetPlaces.{any-places, joined-back, cells-at, equations-at}
 use Rattle.subtraction.proofs.Pairs.{minesOf, safeOf, minesIn, safeIn}
 use Rattle.subtraction.proofs.MinusMarks.{none-marked, marked-mines, marked-safe, marks-left, equations-left}
-
--- a list stored from the first place on
-list-stored : (l : List ℕ) → length l ≤ 1024 → sets (replicate 1024 0) 0 l ≡ pad 1024 0 l
-list-stored l h = ap (λ (a : List ℕ). sets a 0 l) (pad-nil 1024 0) ∙ pad-sets 1024 0 [] l (omega arith)
 
 module _ (s : BlockSet) (w : Whole s) (ready : Ready (blocksOf s)) (mines safe : List ℕ)
     (mines-told : (d : ℕ) → marked mines d ≡ (marked (replicate 1024 0) d || any (minesIn (s .slots) (s .rests) (s .«equation_ends») d) (range 0 (s .blocks))))
@@ -84,9 +80,9 @@ module _ (s : BlockSet) (w : Whole s) (ready : Ready (blocksOf s)) (mines safe :
         «mine_count» = mine-count;
       }
   subtracted known known-are mine-list mines-stored mine-count mines-counted safe-list safe-stored safe-count safe-counted = record {
-    safe-are = safe-stored ∙ list-stored (allWith safe (s .cells) (s .«cell_ends») (s .blocks)) safe-fit ∙ ap (pad 1024 0) safe-listed;
+    safe-are = safe-stored ∙ filled-sets 1024 0 (allWith safe (s .cells) (s .«cell_ends») (s .blocks)) safe-fit ∙ ap (pad 1024 0) safe-listed;
     safe-counted = safe-counted ∙ ap length safe-listed;
-    mines-are = mines-stored ∙ list-stored (allWith mines (s .cells) (s .«cell_ends») (s .blocks)) mines-fit ∙ ap (pad 1024 0) mines-listed;
+    mines-are = mines-stored ∙ filled-sets 1024 0 (allWith mines (s .cells) (s .«cell_ends») (s .blocks)) mines-fit ∙ ap (pad 1024 0) mines-listed;
     mines-counted = mines-counted ∙ ap length mines-listed;
     blocks-left = marks-left bs ready mines safe mines-are safe-are (w .fits .on-board) known known-are;
     equations-left = equations-left bs ready mines safe mines-are safe-are (w .fits .on-board) known known-are;

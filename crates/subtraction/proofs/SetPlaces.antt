@@ -20,7 +20,7 @@ use Rattle.blocks.specs.Places.{cellsFrom, equationsFrom, blockFrom}
 use Rattle.blocks.specs.declared.BlockSet.{BlockSet}
 use Rattle.blocks.proofs.Ends.{endsOf, end-of}
 use Rattle.blocks.proofs.Reading.{noEquation, noBlock, equation-read}
-use Rattle.blocks.proofs.Behind.{blocks-held}
+use Rattle.blocks.proofs.Behind.{blocks-held, blocks-few}
 use Rattle.blocks.proofs.Standing.{block-in, arrays-in}
 use Rattle.marks.specs.Marked.{Parts}
 use Rattle.subtraction.specs.Pairs.{Once}
@@ -33,9 +33,6 @@ module _ (s : BlockSet) (w : Whole s) where
   -- the block at a place
   abbrev at : ℕ → Block
   at b = getD bs b noBlock
-
-  pub few-blocks : s .blocks ≤ 1024
-  few-blocks = omega (arith, blocks-held s w, w .fits .few-blocks)
 
   -- a place of a block
   inside : (b : ℕ) → b < s .blocks → b < length bs
@@ -83,7 +80,7 @@ module _ (s : BlockSet) (w : Whole s) where
 
   -- the cells, by their ends
   pub parts : Parts (s .cells) (s .«cell_ends») (s .blocks)
-  parts = record { few = few-blocks; in-cells = λ b h. arrays-in s w b (inside b h) .in-cells }
+  parts = record { few = blocks-few s w; in-cells = λ b h. arrays-in s w b (inside b h) .in-cells }
 
   -- no cell stands twice in the slots of an equation, if none does in an equation
   pub slots-once : all (λ (e : BlockEquation). nodup (e .cells)) (allEquations bs) ≡ true → (b : ℕ) → b < s .blocks → Once (s .slots) (getD (s .«equation_ends») b 0)

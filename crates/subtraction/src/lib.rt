@@ -9,6 +9,7 @@ use blocks::marks_of;
 use blocks::slots_at;
 use chunks::chunk_matrixes;
 use grid::window::wide;
+use grid::window::wide_byte;
 use marks::count_marked;
 use marks::left::left_blocks;
 use marks::left::left_rests;
@@ -34,13 +35,6 @@ ghost use Rattle.rules.specs.Answers.{ruleAnswer, sweptLists};
 ghost use Rattle.subtraction.specs.Minus.{ownCells, somePair, subtraction};
 ghost use Rattle.subtraction.specs.Pairs.{Once, equationIn, someOther, Subtracts, minusLists};
 
-// A remainder plus 8, as wide as a count.
-fn wide_rest(rest: u8) -> usize
-    ensures { λ r. ⌜ (r ≡ rest) × (r < 256) ⌝ }
-{
-    rest as usize
-}
-
 // Holds one equation against each of its block: marks the mines and the safe cells that follow.
 fn subtract_from(
     slots: &[u16; 8192],
@@ -63,12 +57,12 @@ fn subtract_from(
     let list = slots_at(slots, e);
     let len = list.len;
     let own = marks_of(list);
-    let rest = wide_rest(rests[e]);
+    let rest = wide_byte(rests[e]);
     for f in first..end {
         let other = slots_at(slots, f);
         let shared = count_marked(&own, other);
         if 0 < shared {
-            if rest + shared == wide_rest(rests[f]) + len {
+            if rest + shared == wide_byte(rests[f]) + len {
                 mark_own(list, other, mines);
                 mark_own(other, list, safe);
             }

@@ -24,7 +24,7 @@ use Rattle.groups.specs.Groups.{firsts}
 use Rattle.search.specs.Solutions.{solutions}
 use Rattle.tables.specs.declared.TableAnswer.{TableAnswer}
 use Rattle.tables.specs.declared.TableAnswer.the-variants.{Refused, Listed}
-use Rattle.tables.specs.Tables.{TableSeen, tableSeen, refused, tableOf, blockAsked, afterTests, calAllSolution, rowAt}
+use Rattle.tables.specs.Tables.{TableSeen, tableSeen, tableRefused, tableOf, blockAsked, tableAfterTests, calAllSolution, rowAt}
 use Rattle.text.specs.Text.{decimal, Written}
 use Rattle.text.proofs.Writing.{written-within, written-both}
 use Rattle.show.specs.Cells.{cellsText}
@@ -92,7 +92,7 @@ table-within b t = go (leb (length (solutions b) * length (firsts b)) (length t)
     listed = tableSeen (Listed (length (solutions b)) (length (firsts b))) (sets t 0 (joined (solutions b)))
 
     go : (c : Bool) → leb (length (solutions b) * length (firsts b)) (length t) ≡ c
-        → RowsWithin (cond c listed (refused refusal.Table t) .answer) (cond c listed (refused refusal.Table t) .table)
+        → RowsWithin (cond c listed (tableRefused refusal.Table t) .answer) (cond c listed (tableRefused refusal.Table t) .table)
     go true e = rw length-sets (leb-true _ _ e)
     go false e = omega arith
 
@@ -103,7 +103,7 @@ asked-within bs n t = go (ltb n (length bs))
     asked : TableSeen
     asked = tableOf (getD bs n (record { cells = []; equations = [] })) t
 
-    go : (c : Bool) → RowsWithin (cond c asked (refused refusal.Block t) .answer) (cond c asked (refused refusal.Block t) .table)
+    go : (c : Bool) → RowsWithin (cond c asked (tableRefused refusal.Block t) .answer) (cond c asked (tableRefused refusal.Block t) .table)
     go true = table-within _ t
     go false = omega arith
 
@@ -115,7 +115,7 @@ module _ (rows columns : ℕ) (p : List ℕ) (n : ℕ) (t : List ℕ) where
       asked : TableSeen
       asked = blockAsked (frontier (neighbours flat rows columns) p) n t
 
-      go : (x : Tested) → RowsWithin (afterTests x asked t .answer) (afterTests x asked t .table)
+      go : (x : Tested) → RowsWithin (tableAfterTests x asked t .answer) (tableAfterTests x asked t .table)
       go test.Accepted = asked-within (frontier (neighbours flat rows columns) p) n t
       go (test.Refused r) = omega arith
 

@@ -26,14 +26,15 @@ use Rattle.refusals.proofs.FirstFailure.{not-both}
 use Rattle.refusals.proofs.RefusalNumbers.{refusal-numbered}
 use Rattle.blocks.specs.Blocks.{Block}
 use Rattle.blocks.proofs.Reading.{noBlock}
+use Rattle.blocks.proofs.ProperBlocks.{Proper}
 use Rattle.frontier.specs.Frontier.{frontier}
-use Rattle.frontier.proofs.BlockLaws.{Proper, frontier-proper}
+use Rattle.frontier.proofs.BlockLaws.{frontier-proper}
 use Rattle.groups.specs.Groups.{firsts, sizes}
 use Rattle.search.specs.Solutions.{solves, solutions}
 use Rattle.search.proofs.Vectors.{withinSizes}
 use Rattle.search.proofs.ListedSolutions.{solutions-once, solutions-in-order}
 use Rattle.search.proofs.GroupRows.{row-listed, listed-row}
-use Rattle.tables.specs.Tables.{tableNumber, tableSolutions, tableGroups, TableSeen, tableSeen, rowAt, refused, tableOf, blockAsked, calAllSolution}
+use Rattle.tables.specs.Tables.{tableNumber, tableSolutions, tableGroups, TableSeen, tableSeen, rowAt, tableRefused, tableOf, blockAsked, calAllSolution}
 use Rattle.tables.specs.Listed.{askedBlock, Accepts, ListedTable, TableCall}
 use Rattle.tables.specs.declared.TableAnswer.{TableAnswer}
 use Rattle.tables.specs.declared.TableAnswer.the-variants.{Refused, Listed}
@@ -87,7 +88,7 @@ module _ (edgeless : Bool) (rows columns : ℕ) (p : List ℕ) (k : ℕ) (t : Li
   asked = askedBlock edgeless rows columns p k
 
   -- the tests refuse
-  pub tests-refuse : (x : Refusal) → positionTested rows columns p ≡ test.Refused x → refused x t ≡ calAllSolution edgeless rows columns p k t
+  pub tests-refuse : (x : Refusal) → positionTested rows columns p ≡ test.Refused x → tableRefused x t ≡ calAllSolution edgeless rows columns p k t
   unfolding calAllSolution
   tests-refuse x h = rw h
 
@@ -102,7 +103,7 @@ module _ (edgeless : Bool) (rows columns : ℕ) (p : List ℕ) (k : ℕ) (t : Li
 
   abbrev Outcome : Type 0
   Outcome =
-      ((x : Refusal) × (Accepts edgeless rows columns p k t → ⊥) × (calAllSolution edgeless rows columns p k t ≡ refused x t))
+      ((x : Refusal) × (Accepts edgeless rows columns p k t → ⊥) × (calAllSolution edgeless rows columns p k t ≡ tableRefused x t))
       ⊎ (Accepts edgeless rows columns p k t × (calAllSolution edgeless rows columns p k t ≡ listing))
 
   outcome : Outcome

@@ -14,7 +14,8 @@ use Rattle.lists.proofs.Tests.{Decided, decided}
 use Rattle.lists.proofs.Members.{range-in, getD-has}
 use Rattle.lists.proofs.Kept.{keep-ext}
 use Rattle.lists.proofs.Joined.{map-ext}
-use Rattle.lists.proofs.Arrays.{length-pad, pad-take}
+use Rattle.lists.proofs.Arrays.{length-pad}
+use Rattle.search.proofs.TreeSolutions.{weighed-front}
 use Rattle.blocks.specs.Blocks.{Block}
 use Rattle.blocks.specs.BlockSets.{before, slotCells}
 use Rattle.groups.specs.Groups.{column, firsts}
@@ -70,15 +71,9 @@ module _ (b : Block) (k : Combinable b) where
   pub weighed-few : length (weighed b) ≤ 1024
   weighed-few = omega (arith, weighed-each-once b (combinable-proper b k) .long, groups-few b k)
 
-  -- the array's front is the order
-  pub weighed-front : take (grouped b .groups) (pad 1024 0 (weighed b)) ≡ weighed b
-  weighed-front =
-      ap (λ (n : ℕ). take n (pad 1024 0 (weighed b))) (groups-read b ∙ sym (weighed-each-once b (combinable-proper b k) .long))
-      ∙ pad-take 1024 0 (weighed b)
-
-  -- and has each group once
+  -- the array's front has each group once
   pub weighed-front-once : EachOnce (take (grouped b .groups) (pad 1024 0 (weighed b))) (grouped b .groups)
-  weighed-front-once = rw (weighed-front, groups-read b) (weighed-each-once b (combinable-proper b k))
+  weighed-front-once = rw (weighed-front b k, groups-read b) (weighed-each-once b (combinable-proper b k))
 
   -- so the search takes it
   pub weighed-ordered : Ordered (pad 1024 0 (weighed b)) (grouped b .groups) (grouped b .equations) (grouped b .sizes) (grouped b .columns)

@@ -24,10 +24,10 @@ use Rattle.search.specs.Searching.{Ordered, State, unset, treeAt, placed}
 use Rattle.search.proofs.Orders.{placed-by-group}
 use Rattle.search.proofs.ReadingGroups.{groups-read, equations-read, groups-few, grouped-state}
 use Rattle.search.proofs.ListedSolutions.{negative-none, weighed-each-once}
-use Rattle.search.proofs.TreeSolutions.{searched, row-long, tree-solutions, tree-solutions-length}
+use Rattle.search.proofs.TreeSolutions.{searched, row-long, tree-solutions, tree-solutions-length, weighed-front}
 use Rattle.tables.specs.Tables.{tableSeen, tableOf}
 use Rattle.tables.specs.declared.TableAnswer.the-variants.{Refused, Listed}
-use Rattle.tables.proofs.WeighedGroups.{weighed-by-columns, weighed-few, weighed-front, weighed-front-once, weighed-ordered}
+use Rattle.tables.proofs.WeighedGroups.{weighed-by-columns, weighed-few, weighed-front-once, weighed-ordered}
 
 -- the rows of the tree as they are written: by group, over the values that stood there
 abbrev writtenRows : Grouped → List ℕ → List ℕ → List (List ℕ)

@@ -51,24 +51,24 @@ abbrev pub rowAt : ℕ → List ℕ → ℕ → List ℕ
 rowAt g t i = take g (drop (i * g) t)
 
 -- a refusal leaves the table as it was
-abbrev pub refused : Refusal → List ℕ → TableSeen
-refused r t = tableSeen (Refused r) t
+abbrev pub tableRefused : Refusal → List ℕ → TableSeen
+tableRefused r t = tableSeen (Refused r) t
 
 -- the table of a block: refusal 9 where solutions × groups exceeds the lent table's length, else the two counts and the rows
 unfoldable pub tableOf : Block → List ℕ → TableSeen
 tableOf b t =
     cond (leb (length (solutions b) * length (firsts b)) (length t))
     (tableSeen (Listed (length (solutions b)) (length (firsts b))) (sets t 0 (joined (solutions b))))
-    (refused refusal.Table t)
+    (tableRefused refusal.Table t)
 
 -- the block asked for, by its number: refusal 8 where it isn't below the block count
 unfoldable pub blockAsked : List Block → ℕ → List ℕ → TableSeen
-blockAsked bs n t = cond (ltb n (length bs)) (tableOf (getD bs n (record { cells = []; equations = [] })) t) (refused refusal.Block t)
+blockAsked bs n t = cond (ltb n (length bs)) (tableOf (getD bs n (record { cells = []; equations = [] })) t) (tableRefused refusal.Block t)
 
 -- refusals 1 to 3 first
-abbrev pub afterTests : Tested → TableSeen → List ℕ → TableSeen
-afterTests test.Accepted w t = w
-afterTests (test.Refused r) w t = refused r t
+abbrev pub tableAfterTests : Tested → TableSeen → List ℕ → TableSeen
+tableAfterTests test.Accepted w t = w
+tableAfterTests (test.Refused r) w t = tableRefused r t
 
 unfoldable pub calAllSolution : Bool → ℕ → ℕ → List ℕ → ℕ → List ℕ → TableSeen
-calAllSolution edgeless rows columns p n t = afterTests (positionTested rows columns p) (blockAsked (frontier (neighbours edgeless rows columns) p) n t) t
+calAllSolution edgeless rows columns p n t = tableAfterTests (positionTested rows columns p) (blockAsked (frontier (neighbours edgeless rows columns) p) n t) t

@@ -18,7 +18,6 @@ use Rattle.refusals.specs.Tests.{boardTested, startCell}
 use Rattle.refusals.proofs.Accepted.{accepted-board}
 use Rattle.fitting.specs.Boards.{Accepted as AcceptedBoard}
 use Rattle.fitting.specs.Passes.{nothing, orElse}
-use Rattle.fitting.proofs.Admitted.{tested-accepted}
 use Rattle.fitting.proofs.Passes.{rounds-cells, grade-bound}
 use Rattle.rules.specs.Found.{ruleOf}
 use Rattle.rules.specs.Direct.{direct}
@@ -26,7 +25,8 @@ use Rattle.subtraction.specs.Minus.{subtraction}
 use Rattle.solutions.specs.ThreeRules.{threeRules}
 use Rattle.solutions.proofs.BoardRules.{board-rules-sound}
 use Rattle.verdict.specs.declared.Verdict.{Verdict}
-use Rattle.verdict.specs.Verdict.{verdictGrade, verdictRounds, VerdictSeen, verdictSeen, afterTests, judgedFrom, isSolvable}
+use Rattle.verdict.specs.Verdict.{verdictGrade, verdictRounds, VerdictSeen, verdictSeen, verdictAfterTests, judgedFrom, isSolvable}
+use Rattle.verdict.proofs.Admitted.{tested-accepted}
 
 -- the three rules have the grades 1, 2 and 3
 pub three-grades : (near : ℕ → List ℕ) (p : List ℕ) → threeRules near p .grade ≤ 3
@@ -74,7 +74,7 @@ module _ (edgeless : Bool) (rows columns row column : ℕ) (b shown : List ℕ) 
   unfolding isSolvable
   grade-at-most-three = go tests
     where
-      go : (t : Tested) → verdictGrade (afterTests t judged shown .answer) ≤ 3
+      go : (t : Tested) → verdictGrade (verdictAfterTests t judged shown .answer) ≤ 3
       go Accepted = judged-grade (neighbours edgeless rows columns) b (startCell columns row column b)
       go (TestRefused x) = omega arith
 
@@ -83,7 +83,7 @@ module _ (edgeless : Bool) (rows columns row column : ℕ) (b shown : List ℕ) 
   unfolding isSolvable
   rounds-at-most-cells = go tests refl
     where
-      go : (t : Tested) → tests ≡ t → verdictRounds (afterTests t judged shown .answer) ≤ length b
+      go : (t : Tested) → tests ≡ t → verdictRounds (verdictAfterTests t judged shown .answer) ≤ length b
       go Accepted e =
           judged-rounds edgeless rows columns b (startCell columns row column b) (tested-accepted edgeless rows columns row column b (length shown ∷ []) e)
           (accepted-board edgeless rows columns row column b (length shown ∷ []) e .start-within)

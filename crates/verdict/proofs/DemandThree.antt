@@ -19,13 +19,13 @@ use Rattle.refusals.specs.Refusals.{refusalNumber}
 use Rattle.refusals.proofs.FirstFailure.{not-both, refusal-not-zero}
 use Rattle.fitting.specs.Passes.{Ending, judge}
 use Rattle.fitting.specs.Demand.{Demand3, picture, opened}
-use Rattle.fitting.proofs.Admitted.{tested-accepted}
 use Rattle.fitting.proofs.Passes.{judge-demand-3}
 use Rattle.solutions.specs.ThreeRules.{threeRules}
 use Rattle.solutions.proofs.BoardRules.{board-rules-sound, board-rules-complete}
 use Rattle.verdict.specs.declared.Verdict.{Verdict}
 use Rattle.verdict.specs.declared.Verdict.the-variants.{Refused}
 use Rattle.verdict.specs.Verdict.{VerdictSeen, verdictSeen, endSeen, judgedFrom, isSolvable, MeetsDemand3}
+use Rattle.verdict.proofs.Admitted.{tested-accepted}
 
 -- a refusal doesn't meet it
 pub refusal-never-meets : {P : Type 0} {near : ℕ → List ℕ} {b : List ℕ} {s : ℕ} {v : Verdict} {r : Refusal} {shown : List ℕ} → v ≡ Refused r

@@ -11,17 +11,17 @@ use lib.ListN.{length, take}
 use borrow.Author.Tests.{eqb-true, eq-eqb, ne-eqb}
 use Rattle.lists.proofs.Tests.{Decided, decided}
 use Rattle.fitting.specs.Boards.{Accepted}
-use Rattle.fitting.specs.Passes.{Found, nothing, openCells, markMines, pass}
+use Rattle.fitting.specs.Passes.{GradedCells, nothing, openCells, markMines, pass}
 use Rattle.verdict.specs.Findings.{Finds}
 use Rattle.verdict.specs.declared.finding.Finding.{Finding}
 use Rattle.verdict.proofs.InPlaceAndEmpty.{empty-taken}
 use Rattle.verdict.proofs.SamePass.{SameCells, same-nothing, same-pass}
 
 -- the struct's lists and grade
-abbrev asFound : Finding → Found
+abbrev asFound : Finding → GradedCells
 asFound r = record { safe = take (r .«safe_count») (r .safe); mines = take (r .«mine_count») (r .mines); grade = r .grade }
 
-module _ {n : ℕ} {f : Found} {r : Finding} (h : Finds n f r) where
+module _ {n : ℕ} {f : GradedCells} {r : Finding} (h : Finds n f r) where
   same-cells : SameCells (asFound r) f
   same-cells = record { safe = h .same-safe; mines = h .same-mines }
 

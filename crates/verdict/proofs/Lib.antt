@@ -1,4 +1,4 @@
--- The laws of the verdict: loops over cells, a pass in any order, the passes underway, what the rules find, demand 3, and what a caller may rely on.
+-- The laws of the verdict: loops over cells, a pass in any order, the passes underway, what the rules find, accepted boards, demand 3, and what a caller may rely on.
 pub mod InPlaceAndEmpty
 pub mod CellByCell
 pub mod SamePass
@@ -7,6 +7,7 @@ pub mod Underway
 pub mod PassesOnBoard
 pub mod ThreeFindings
 pub mod FromStart
+pub mod Admitted
 pub mod DemandThree
 pub mod Bounds
 pub mod NoContradictions

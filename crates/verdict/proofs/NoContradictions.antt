@@ -14,9 +14,8 @@ use Rattle.refusals.specs.Tests.{boardTested, startCell}
 use Rattle.refusals.proofs.Accepted.{accepted-board}
 use Rattle.fitting.specs.Layouts.{Fits}
 use Rattle.fitting.specs.Boards.{Accepted as AcceptedBoard, own}
-use Rattle.fitting.specs.Passes.{Found, pass, judge}
+use Rattle.fitting.specs.Passes.{GradedCells, pass, judge}
 use Rattle.fitting.specs.Rules.{Sound}
-use Rattle.fitting.proofs.Admitted.{tested-accepted}
 use Rattle.fitting.proofs.Steps.{beginning}
 use Rattle.fitting.proofs.Passes.{begin-own, pass-own, passes-keep}
 use Rattle.frontier.specs.Frontier.{frontier}
@@ -28,13 +27,14 @@ use Rattle.solutions.specs.Enumeration.{enumerated}
 use Rattle.solutions.specs.ThreeRules.{threeRules}
 use Rattle.solutions.proofs.BoardRules.{board-rules-sound}
 use Rattle.solutions.proofs.Completeness.{enumeration-sound-at}
+use Rattle.verdict.proofs.Admitted.{tested-accepted}
 
 -- the positions that the passes from the start s come to
-pub data OnTheWay (near : ℕ → List ℕ) (b : List ℕ) (rule : List ℕ → Found) (s : ℕ) : List ℕ → Type 0 where
+pub data OnTheWay (near : ℕ → List ℕ) (b : List ℕ) (rule : List ℕ → GradedCells) (s : ℕ) : List ℕ → Type 0 where
   begins : OnTheWay near b rule s (beginning near b s)
   goes-on : {p : List ℕ} → OnTheWay near b rule s p → OnTheWay near b rule s (pass near b p (rule p))
 
-module _ (near : ℕ → List ℕ) (b : List ℕ) (rule : List ℕ → Found) (s : ℕ) where
+module _ (near : ℕ → List ℕ) (b : List ℕ) (rule : List ℕ → GradedCells) (s : ℕ) where
   -- the last of them is where the passes end
   pub ends-on-the-way : OnTheWay near b rule s (judge near b rule s .position)
   unfolding judge

@@ -9,7 +9,7 @@ use lib.ListN.{length, getD, set}
 use Rattle.lists.specs.Lists.{has}
 use Rattle.lists.proofs.Joined.{map-range}
 use Rattle.fitting.specs.Boards.{Accepted}
-use Rattle.fitting.specs.Passes.{Found, nothing, openCells, markMines, pass}
+use Rattle.fitting.specs.Passes.{GradedCells, nothing, openCells, markMines, pass}
 use Rattle.marks.specs.Written.{written}
 use Rattle.marks.proofs.WrittenCells.{written-none, written-next, written-length}
 use Rattle.flood.proofs.Reached.{flood-any-order}
@@ -32,15 +32,15 @@ marks-any-order p cs ds same =
 -- ---- a pass
 
 -- two findings with the same safe cells and the same mines
-pub record SameCells (f g : Found) : Type 0 where
+pub record SameCells (f g : GradedCells) : Type 0 where
   pub safe : SameNumbers (f .safe) (g .safe)
   pub mines : SameNumbers (f .mines) (g .mines)
 
-pub same-nothing : {f g : Found} → SameCells f g → nothing f ≡ nothing g
+pub same-nothing : {f g : GradedCells} → SameCells f g → nothing f ≡ nothing g
 same-nothing {f} {g} same = rw (same-empty (f .safe) (g .safe) (same .safe), same-empty (f .mines) (g .mines) (same .mines))
 
 pub same-pass : (near : ℕ → List ℕ) (b : List ℕ) → Accepted near b → ((c : ℕ) → c < length b → length (near c) ≤ 8)
-    → (p : List ℕ) → length p ≡ length b → {f g : Found} → SameCells f g → pass near b p f ≡ pass near b p g
+    → (p : List ℕ) → length p ≡ length b → {f g : GradedCells} → SameCells f g → pass near b p f ≡ pass near b p g
 unfolding pass
 same-pass near b ok few p whole {f} {g} same =
     ap (λ (q : List ℕ). openCells near b q (f .safe)) (marks-any-order p (f .mines) (g .mines) (same .mines))

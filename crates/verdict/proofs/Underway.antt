@@ -8,11 +8,11 @@ use Prim.Native.Nat.{ℕ, zero, suc, _+_, _-_, _≤_, _<_, max}
 use native.Mathlib.Omega.{arith}
 use Rattle.fitting.specs.Layouts.{Fits}
 use Rattle.fitting.specs.Boards.{Accepted, own}
-use Rattle.fitting.specs.Passes.{Found, nothing, pass, allOpen, ending, passes}
+use Rattle.fitting.specs.Passes.{GradedCells, nothing, pass, allOpen, ending, passes}
 use Rattle.fitting.specs.Rules.{Sound}
 use Rattle.fitting.proofs.Passes.{pass-own}
 
-module _ (near : ℕ → List ℕ) (b : List ℕ) (rule : List ℕ → Found) where
+module _ (near : ℕ → List ℕ) (b : List ℕ) (rule : List ℕ → GradedCells) where
   -- k passes lead from p₀ to p, with this grade and so many rounds
   pub record Underway (n : ℕ) (p₀ : List ℕ) (k : ℕ) (p : List ℕ) (grade rounds : ℕ) : Type 0 where
     pub same-end : passes near b rule (n - k) p grade rounds ≡ passes near b rule n p₀ 0 0

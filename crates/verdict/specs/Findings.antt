@@ -6,13 +6,13 @@ use Prim.Native.Nat.{ℕ, _≤_}
 use lib.Dec.{ltb, eqb}
 use lib.ListN.{length, take}
 use Rattle.lists.specs.Lists.{all, has}
-use Rattle.fitting.specs.Passes.{Found, Ending}
+use Rattle.fitting.specs.Passes.{GradedCells, Ending}
 use Rattle.rules.specs.declared.answer.Lists.{Lists}
 use Rattle.verdict.specs.declared.finding.Finding.{Finding}
 use Rattle.verdict.specs.declared.passes.Ending.{Ending as PassesEnd}
 
 -- the struct has the cells that a rule found on a board of n cells, in whatever order, and the rule's grade
-pub record Finds (n : ℕ) (f : Found) (r : Finding) : Type 0 where
+pub record Finds (n : ℕ) (f : GradedCells) (r : Finding) : Type 0 where
   pub safe-long : length (r .safe) ≡ 1024
   pub mines-long : length (r .mines) ≡ 1024
   pub few-safe : r .«safe_count» ≤ 1024

@@ -59,13 +59,13 @@ unfoldable pub judgedFrom : (ℕ → List ℕ) → List ℕ → ℕ → VerdictS
 judgedFrom near b s = cond (eqb (cellOf b s) 255) (verdictSeen (Judged false 0 0 0) (replicate (length b) 10)) (endSeen (judge near b (threeRules near) s))
 
 -- the tests first; a refusal leaves the picture as it was
-abbrev pub afterTests : Tested → VerdictSeen → List ℕ → VerdictSeen
-afterTests Accepted w shown = w
-afterTests (TestRefused r) w shown = verdictSeen (Refused r) shown
+abbrev pub verdictAfterTests : Tested → VerdictSeen → List ℕ → VerdictSeen
+verdictAfterTests Accepted w shown = w
+verdictAfterTests (TestRefused r) w shown = verdictSeen (Refused r) shown
 
 unfoldable pub isSolvable : Bool → ℕ → ℕ → ℕ → ℕ → List ℕ → List ℕ → VerdictSeen
 isSolvable edgeless rows columns row column b shown =
-    afterTests (boardTested edgeless rows columns row column b (length shown ∷ [])) (judgedFrom (neighbours edgeless rows columns) b (startCell columns row column b)) shown
+    verdictAfterTests (boardTested edgeless rows columns row column b (length shown ∷ [])) (judgedFrom (neighbours edgeless rows columns) b (startCell columns row column b)) shown
 
 -- demand 3 of an answer that isn't a refusal
 abbrev pub MeetsDemand3 : (ℕ → List ℕ) → List ℕ → ℕ → Verdict → List ℕ → Type 0

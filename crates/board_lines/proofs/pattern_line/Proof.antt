@@ -1,9 +1,6 @@
 -- `board_lines::pattern_line` meets its contract: each of its four ways writes the text that the definition has for it, by the answer's form (`PatternWritten`). Assumes nothing.
-use mathlib.Core.Path.{_≡_}
-use mathlib.Core.Bool.{true}
-use Prim.Native.Nat.{_≤_}
 use native.Mathlib.Omega.{arith}
-use lib.ListN.{length, length-take}
+use lib.ListN.{length-take}
 use borrow.Author.Needs.{needs}
 use borrow.Author.Tests.{not-true, not-false}
 use Rattle.lines.proofs.CellsSoFar.{line-fits}
@@ -13,19 +10,9 @@ use Rattle.board_lines.proofs.PatternWritten.{pattern-line-written}
 use Rattle.board_lines.proofs.pattern_line.Statement.{statement}
 use Rattle.board_lines.proofs.pattern_line.Tie as tie
 
--- the line's cells stand inside its array
-fits : (c : tie.After-read-line) → c .read-line .result .len ≤ length (c .read-line .result .cells)
-fits c = rw (c .read-line .ensures) (line-fits _)
-
--- where the call has answered: the line was read, it is readable, and the answer is the call's to its board
+-- where the call has answered: the line that was read
 abbrev read : tie.After-unsolvable-structure → tie.After-read-line
 read c = c .before .before .before .before .before
-
-readable : (c : tie.After-unsolvable-structure) → read c .read-line .result .readable ≡ true
-readable c = not-false (read c .read-line .result .readable) (c .before .before .before .if1 .left)
-
-answered : (c : tie.After-unsolvable-structure) → c .unsolvable-structure .result ≡ patternOf (read c .read-line .result)
-answered c = c .unsolvable-structure .ensures
 
 read-line-requires : tie.Need-read-line-requires
 read-line-requires c κs = search needs
@@ -47,10 +34,10 @@ returns c =
     (not-true (line .read-line .result .readable) (c .before .before .before .before .before .if1 .taken)) (c .before .before .put-bytes .ensures)
 
 array-share-prefix-cells : tie.Need-array-share-prefix-cells
-array-share-prefix-cells c = fits (c .before .before .before)
+array-share-prefix-cells c = line-fits _ _ (c .before .before .before .read-line .ensures)
 
 slice-aggregate-unsolvable-structure : tie.Need-slice-aggregate-unsolvable-structure
-slice-aggregate-unsolvable-structure c = simp length-take (omega (arith, fits (c .before .before .before .before)))
+slice-aggregate-unsolvable-structure c = simp length-take (omega (arith, line-fits _ _ (c .before .before .before .before .read-line .ensures)))
 
 unsolvable-structure-requires : tie.Need-unsolvable-structure-requires
 unsolvable-structure-requires c κs = search needs
@@ -86,7 +73,7 @@ returns-2 : tie.Need-returns-2
 returns-2 c =
     let told = c .before .before .before .before .before in
     let call = told .before .before in
-    pattern-line-written _ _ (read call .read-line .ensures) (readable call) _ (answered call) (told .answer .given .1) (c .before .before .put-refused .ensures)
+    pattern-line-written _ _ (read call .read-line .ensures) (not-false _ (call .before .before .before .if1 .left)) _ (call .unsolvable-structure .ensures) (told .answer .given .1) (c .before .before .put-refused .ensures)
 
 same-length-3 : tie.Need-same-length-3
 same-length-3 c = search needs
@@ -95,7 +82,7 @@ returns-3 : tie.Need-returns-3
 returns-3 c =
     let told = c .before .before .before .before .before in
     let call = told .before .before in
-    pattern-line-written _ _ (read call .read-line .ensures) (readable call) _ (answered call) (told .enum-told .given .1) (c .before .before .put-bytes2 .ensures)
+    pattern-line-written _ _ (read call .read-line .ensures) (not-false _ (call .before .before .before .if1 .left)) _ (call .unsolvable-structure .ensures) (told .enum-told .given .1) (c .before .before .put-bytes2 .ensures)
 
 same-length-4 : tie.Need-same-length-4
 same-length-4 c = search needs
@@ -104,7 +91,7 @@ returns-4 : tie.Need-returns-4
 returns-4 c =
     let told = c .before .before .before .before .before in
     let call = told .before .before in
-    pattern-line-written _ _ (read call .read-line .ensures) (readable call) _ (answered call) (told .enum-told2 .given .1) (c .before .before .put-bytes3 .ensures)
+    pattern-line-written _ _ (read call .read-line .ensures) (not-false _ (call .before .before .before .if1 .left)) _ (call .unsolvable-structure .ensures) (told .enum-told2 .given .1) (c .before .before .put-bytes3 .ensures)
 
 pub pattern-line-spec : {M : Type 1} → statement M
 pattern-line-spec =

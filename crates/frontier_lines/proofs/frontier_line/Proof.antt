@@ -1,10 +1,7 @@
 -- `frontier_lines::frontier_line` meets its contract: the writes of each of its three ways are the answer's text, one behind the other, and the block set of
 -- the answer is whole. Rests on `FrontierWritten`. Assumes nothing.
-use mathlib.Core.Path.{_≡_}
-use mathlib.Core.Bool.{true}
-use Prim.Native.Nat.{_≤_}
 use native.Mathlib.Omega.{arith}
-use lib.ListN.{length, length-take}
+use lib.ListN.{length-take}
 use borrow.Author.Needs.{needs}
 use borrow.Author.Tests.{not-true, not-false}
 use Rattle.text.proofs.Writing.{written-within}
@@ -15,19 +12,9 @@ use Rattle.frontier_lines.proofs.FrontierWritten.{answer-whole, accepte
 use Rattle.frontier_lines.proofs.frontier_line.Statement.{statement}
 use Rattle.frontier_lines.proofs.frontier_line.Tie as tie
 
--- the line's cells stand inside its array
-fits : (c : tie.After-read-line) → c .read-line .result .len ≤ length (c .read-line .result .cells)
-fits c = rw (c .read-line .ensures) (line-fits _)
-
--- where the call has answered: the line was read, it is readable, and the answer is the call's to its position
+-- where the call has answered: the line that was read
 abbrev read : tie.After-refresh-matrixs → tie.After-read-line
 read c = c .before .before .before .before .before
-
-readable : (c : tie.After-refresh-matrixs) → read c .read-line .result .readable ≡ true
-readable c = not-false (read c .read-line .result .readable) (c .before .before .before .if1 .left)
-
-answered : (c : tie.After-refresh-matrixs) → c .refresh-matrixs .result ≡ answerTo (read c .read-line .result)
-answered c = c .refresh-matrixs .ensures
 
 read-line-requires : tie.Need-read-line-requires
 read-line-requires c κs = search needs
@@ -49,10 +36,10 @@ returns c =
     (not-true (line .read-line .result .readable) (c .before .before .before .before .before .if1 .taken)) (c .before .before .put-bytes .ensures)
 
 array-share-prefix-cells : tie.Need-array-share-prefix-cells
-array-share-prefix-cells c = fits (c .before .before .before)
+array-share-prefix-cells c = line-fits _ _ (c .before .before .before .read-line .ensures)
 
 slice-aggregate-refresh-matrixs : tie.Need-slice-aggregate-refresh-matrixs
-slice-aggregate-refresh-matrixs c = simp length-take (omega (arith, fits (c .before .before .before .before)))
+slice-aggregate-refresh-matrixs c = simp length-take (omega (arith, line-fits _ _ (c .before .before .before .before .read-line .ensures)))
 
 refresh-matrixs-requires : tie.Need-refresh-matrixs-requires
 refresh-matrixs-requires c κs = search needs
@@ -93,7 +80,7 @@ put-bytes-requires-4 c κs = search needs
 put-blocks-requires : tie.Need-put-blocks-requires
 put-blocks-requires c κs =
     let call = c .before .before .before .before .before .before .before .before .before .before .before .before .before .before .before .before .before .before .before .before .before .before .before .before .before .before in
-    (written-within (c .before .before .before .put-bytes4 .ensures), rw (answered call) (answer-whole _ _ _))
+    (written-within (c .before .before .before .put-bytes4 .ensures), rw (call .refresh-matrixs .ensures) (answer-whole _ _ _))
 
 same-length-2 : tie.Need-same-length-2
 same-length-2 c = search needs
@@ -102,7 +89,7 @@ returns-2 : tie.Need-returns-2
 returns-2 c =
     let told = c .before .before .before .before .before .tested .given .1 in
     let call = c .before .before .before .before .before .before .before in
-    frontier-line-written _ _ (read call .read-line .ensures) (readable call) _ (answered call) (frontier-written _ told (c .before .before .put-refused .ensures))
+    frontier-line-written _ _ (read call .read-line .ensures) (not-false _ (call .before .before .before .if1 .left)) _ (call .refresh-matrixs .ensures) (frontier-written _ told (c .before .before .put-refused .ensures))
 
 same-length-3 : tie.Need-same-length-3
 same-length-3 c = search needs
@@ -116,7 +103,7 @@ returns-3 c =
     let inside = cells .before .before .before .before in
     let told = inside .before .before .before in
     let call = told .before .before in
-    frontier-line-written _ _ (read call .read-line .ensures) (readable call) _ (answered call)
+    frontier-line-written _ _ (read call .read-line .ensures) (not-false _ (call .before .before .before .if1 .left)) _ (call .refresh-matrixs .ensures)
     (frontier-written _ (told .enum-told .given .1)
     (accepted-frontier (call .refresh-matrixs .result) (inside .put-bytes2 .ensures) (cells .put-number .ensures) (mines .put-bytes3 .ensures) (known .put-number2 .ensures) (gap .put-bytes4 .ensures)
     (c .before .before .put-blocks .ensures)))

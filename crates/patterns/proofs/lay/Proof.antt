@@ -4,7 +4,7 @@ use Prim.Native.Nat.{_-_, _≤_}
 use mathlib.Core.Path.{_∙_, ap}
 use native.Mathlib.Omega.{arith}
 use borrow.Author.Needs.{needs}
-use Rattle.patterns.specs.Shapes.{marked}
+use Rattle.patterns.specs.Shapes.{mineMark}
 use Rattle.grid.specs.Cells.{cellOf}
 use Rattle.patterns.proofs.FilledRows.{Filled, filled-start, filled-put, filled-row, filled-laid}
 use Rattle.patterns.proofs.lay.Statement.{statement}
@@ -56,7 +56,7 @@ loop2-again : tie.Need-loop2-again Inv-loop2 μ-loop2 Inv-loop μ-loop
 loop2-again c =
     let i = c .before .before .before in
     let start = i .before .before .before .before .before in
-    let value = c .mark .ensures ∙ ap (λ n. marked (cellOf (start .args .cells .now) n)) (c .before .before .cell-number .ensures .0) in
+    let value = c .mark .ensures ∙ ap (λ n. mineMark (cellOf (start .args .cells .now) n)) (c .before .before .cell-number .ensures .0) in
     (filled-put _ _ _ _ _ _ _ (start .pre .1 .sized .few-rows) (start .pre .1 .sized .few-columns) (omega arith) (i .loop2-test .taken) value (i .before .loop2 .inv .0), omega arith)
 
 add-row : tie.Need-add-row Inv-loop2 μ-loop2 Inv-loop μ-loop

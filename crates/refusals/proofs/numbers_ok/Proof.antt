@@ -43,8 +43,8 @@ count-beside-requires c κs =
     let start = c .before .before .before .before .before in
     (start .pre, place-on _ _ _ (c .before .before .loop-test .taken))
 
-wide-cell-requires : tie.Need-wide-cell-requires Inv-loop μ-loop
-wide-cell-requires c κs = search needs
+wide-byte-requires : tie.Need-wide-byte-requires Inv-loop μ-loop
+wide-byte-requires c κs = search needs
 
 returns : tie.Need-returns Inv-loop μ-loop
 unfolding numbersOk
@@ -53,7 +53,7 @@ returns c =
     let start = loop .before .before in
     let near = neighbours (start .args .edgeless) (start .args .rows) (start .args .columns) in
     let cells = start .args .cells .now in
-    let wrong = number-fails near cells (loop .loop .c) _ (c .before .before .count-beside .ensures) (c .before .wide-cell .ensures) (c .before .before .before .if1 .taken) (c .if2 .taken) in
+    let wrong = number-fails near cells (loop .loop .c) _ (c .before .before .count-beside .ensures) (c .before .wide-byte .ensures .0) (c .before .before .before .if1 .taken) (c .if2 .taken) in
     sym (every-fails (length cells) (numberOk near cells) (loop .loop .c) (rw (start .pre .whole) (c .before .before .before .before .before .loop-test .taken)) wrong)
 
 add-c : tie.Need-add-c Inv-loop μ-loop
@@ -70,7 +70,7 @@ loop-again c =
     let cells = start .args .cells .now in
     let passes =
     ⊎-elim
-    (λ w. number-passes near cells (loop .loop .c) _ (w .1 .ensures) (w .2 .ensures) (w .3 .left))
+    (λ w. number-passes near cells (loop .loop .c) _ (w .1 .ensures) (w .2 .ensures .0) (w .3 .left))
     (λ w. mine-passes near cells (loop .loop .c) (w .left))
     (c .if1 .came) in
     (search needs, every-more (loop .loop .c) (numberOk near cells) passes (loop .loop .inv .1))
@@ -95,7 +95,7 @@ numbers-ok-spec =
     div-count-beside
     rem-count-beside
     count-beside-requires
-    wide-cell-requires
+    wide-byte-requires
     returns
     add-c
     loop-less

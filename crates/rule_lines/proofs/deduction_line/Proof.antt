@@ -19,7 +19,7 @@ use Rattle.rule_lines.proofs.deduction_line.Tie as tie
 
 -- the line's cells stand inside its array
 fits : (c : tie.After-read-line) → c .read-line .result .len ≤ length (c .read-line .result .cells)
-fits c = rw (c .read-line .ensures) (line-fits _)
+fits c = line-fits _ _ (c .read-line .ensures)
 
 -- where the call has answered: the line that was read, and the position that is left
 abbrev read : tie.After-deduce → tie.After-read-line

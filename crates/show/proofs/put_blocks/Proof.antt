@@ -5,8 +5,9 @@ use mathlib.Core.Path.{refl, _∙_}
 use native.Mathlib.Omega.{arith}
 use borrow.Author.Needs.{needs}
 use Rattle.text.proofs.Writing.{written-length, written-within, WrittenUpTo, up-to-none, up-to-next, up-to-last}
+use Rattle.blocks.proofs.Behind.{blocks-few}
 use Rattle.show.specs.Blocks.{blockIn, blockText}
-use Rattle.show.proofs.Parts.{whole-few, whole-inside, blocks-written}
+use Rattle.show.proofs.Parts.{whole-inside, blocks-written}
 use Rattle.show.proofs.put_blocks.Statement.{statement}
 use Rattle.show.proofs.put_blocks.Tie as tie
 
@@ -43,7 +44,7 @@ add-k : tie.Need-add-k Inv-loop μ-loop
 add-k c =
     let test = c .before .before .before .before .before .before .before .before .before in
     let s = test .before .before .before .before .before .before .before .before .before .before .before .before .before .before .before .before .before in
-    omega (arith, whole-few (s .args .set) (s .pre .1), test .loop-test .taken)
+    omega (arith, blocks-few (s .args .set) (s .pre .1), test .loop-test .taken)
 
 loop-less : tie.Need-loop-less Inv-loop μ-loop
 loop-less c = search needs

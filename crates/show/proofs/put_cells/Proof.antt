@@ -36,7 +36,7 @@ loop-less c = search needs
 loop-again : tie.Need-loop-again Inv-loop μ-loop
 loop-again c =
     up-to-next (c .before .before .before .before .before .before .loop-test .taken) (c .before .before .before .before .before .before .before .loop .inv)
-    (rw (c .before .before .before .wide-byte .ensures) at (c .before .before .put-marked .ensures))
+    (rw (c .before .before .before .wide-byte .ensures .0) at (c .before .before .put-marked .ensures))
 
 same-length : tie.Need-same-length Inv-loop μ-loop
 same-length c = written-length (c .before .loop .inv .written)

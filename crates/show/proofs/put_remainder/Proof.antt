@@ -17,7 +17,7 @@ same-length : tie.Need-same-length
 same-length c = search needs
 
 returns : tie.Need-returns
-returns c = rw (remainder-negative _ _ (c .before .before .before .before .before .wide-byte .ensures) (c .before .before .before .before .if1 .taken)) (c .before .before .put-marked .ensures)
+returns c = rw (remainder-negative _ _ (c .before .before .before .before .before .wide-byte .ensures .0) (c .before .before .before .before .if1 .taken)) (c .before .before .put-marked .ensures)
 
 put-number-requires : tie.Need-put-number-requires
 put-number-requires c κs = search needs
@@ -26,7 +26,7 @@ same-length-2 : tie.Need-same-length-2
 same-length-2 c = search needs
 
 returns-2 : tie.Need-returns-2
-returns-2 c = rw (remainder-whole _ _ (c .before .before .before .before .before .wide-byte .ensures) (c .before .before .before .before .if1 .left)) (c .before .before .put-number .ensures)
+returns-2 c = rw (remainder-whole _ _ (c .before .before .before .before .before .wide-byte .ensures .0) (c .before .before .before .before .if1 .left)) (c .before .before .put-number .ensures)
 
 pub put-remainder-spec : {M : Type 1} → statement M
 put-remainder-spec =

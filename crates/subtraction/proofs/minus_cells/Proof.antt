@@ -5,7 +5,8 @@ use Prim.Native.Nat.{_+_, _≤_}
 use native.Mathlib.Omega.{arith}
 use lib.ListN.{length}
 use borrow.Author.Needs.{needs}
-use Rattle.rules.proofs.WholeSets.{few-blocks, equations-of-all, slots-of-all}
+use Rattle.blocks.proofs.Behind.{blocks-few}
+use Rattle.rules.proofs.WholeSets.{equations-of-all, slots-of-all}
 use Rattle.subtraction.proofs.OwnLists.{own-mines-long, own-safe-long}
 use Rattle.subtraction.proofs.MinusLists.{both-mines-fit, both-safe-fit, both-answered}
 use Rattle.subtraction.proofs.minus_cells.Statement.{statement}
@@ -46,7 +47,7 @@ subtract-requires : tie.Need-subtract-requires
 subtract-requires c κs = search needs
 
 begin-at-requires : tie.Need-begin-at-requires
-begin-at-requires c κs = let s = c .before .before .before .before .before .before .before in few-blocks (s .args .t1) (s .pre .0)
+begin-at-requires c κs = let s = c .before .before .before .before .before .before .before in blocks-few (s .args .t1) (s .pre .0)
 
 sweep-left-requires : tie.Need-sweep-left-requires
 sweep-left-requires c κs =

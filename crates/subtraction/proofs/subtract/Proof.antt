@@ -4,10 +4,10 @@ use mathlib.Core.Path.{refl}
 use native.Mathlib.Omega.{arith}
 use borrow.Author.Needs.{needs}
 use Rattle.blocks.specs.BlockSets.{blocksOf}
-use Rattle.blocks.proofs.Behind.{blocks-held}
+use Rattle.blocks.proofs.Behind.{blocks-held, blocks-few}
 use Rattle.blocks.proofs.Standing.{arrays-in}
 use Rattle.subtraction.proofs.ReadyBlocks.{all-equations-once}
-use Rattle.subtraction.proofs.SetPlaces.{few-blocks, parts, slots-once}
+use Rattle.subtraction.proofs.SetPlaces.{parts, slots-once}
 use Rattle.subtraction.proofs.OwnLists.{mines-fit, safe-fit, subtracted}
 use Rattle.subtraction.proofs.subtract.Statement.{statement}
 use Rattle.subtraction.proofs.subtract.Tie as tie
@@ -30,7 +30,7 @@ subtract-blocks-requires c κs =
     let s = c .before .before .before .before .before .before .before .before in
     let set = s .args .set in
     let whole = s .pre .0 in (
-      few-blocks set whole,
+      blocks-few set whole,
       (
         λ b h. (
           arrays-in set whole b (omega (arith, blocks-held set whole)) .in-slots,

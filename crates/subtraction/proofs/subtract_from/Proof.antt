@@ -61,11 +61,11 @@ slots-at-requires c κs = search needs
 marks-of-requires : tie.Need-marks-of-requires Inv-loop μ-loop
 marks-of-requires c κs = list-on-board c
 
-element-copy-out-wide-rest : tie.Need-element-copy-out-wide-rest Inv-loop μ-loop
-element-copy-out-wide-rest c = search needs
+element-copy-out-wide-byte : tie.Need-element-copy-out-wide-byte Inv-loop μ-loop
+element-copy-out-wide-byte c = search needs
 
-wide-rest-requires : tie.Need-wide-rest-requires Inv-loop μ-loop
-wide-rest-requires c κs = search needs
+wide-byte-requires : tie.Need-wide-byte-requires Inv-loop μ-loop
+wide-byte-requires c κs = search needs
 
 loop-holds : tie.Need-loop-holds Inv-loop μ-loop
 loop-holds c = (search needs, search needs, marked-start _ _ _, marked-start _ _ _)
@@ -83,18 +83,18 @@ add-if2 c =
     let s = start l in
     let few = shared-few (s .args .slots .now) (s .args .rests .now) (s .args .e) (l .loop .f) _ _ (read (own l) .slots-at .ensures) (o .slots-at2 .ensures)
     _ (own l .marks-of .ensures) _ (c .before .count-marked .ensures) in
-    omega (arith, l .before .wide-rest .ensures)
+    omega (arith, l .before .wide-byte .ensures)
 
-element-copy-out-wide-rest-2 : tie.Need-element-copy-out-wide-rest-2 Inv-loop μ-loop
-element-copy-out-wide-rest-2 c = search needs
+element-copy-out-wide-byte-2 : tie.Need-element-copy-out-wide-byte-2 Inv-loop μ-loop
+element-copy-out-wide-byte-2 c = search needs
 
-wide-rest-requires-2 : tie.Need-wide-rest-requires-2 Inv-loop μ-loop
-wide-rest-requires-2 c κs = search needs
+wide-byte-requires-2 : tie.Need-wide-byte-requires-2 Inv-loop μ-loop
+wide-byte-requires-2 c κs = search needs
 
 add-if2-2 : tie.Need-add-if2-2 Inv-loop μ-loop
 add-if2-2 c =
     let o = other (c .before .before .before) in
-    omega (arith, c .wide-rest2 .ensures, list-on-board (read (own (loop o))) .few)
+    omega (arith, c .wide-byte2 .ensures, list-on-board (read (own (loop o))) .few)
 
 mark-own-requires : tie.Need-mark-own-requires Inv-loop μ-loop
 mark-own-requires c κs =
@@ -128,7 +128,7 @@ loop-again c =
     let second = o .slots-at2 .ensures in
     let marks = own l .marks-of .ensures in
     let shared = c .before .count-marked .ensures in
-    let rest = l .before .wide-rest .ensures .0 in
+    let rest = l .before .wide-byte .ensures .0 in
     let more = equations-more slots rests f end test in
     ⊎-elim
     (λ w.
@@ -173,14 +173,14 @@ subtract-from-spec =
     μ-loop
     slots-at-requires
     marks-of-requires
-    element-copy-out-wide-rest
-    wide-rest-requires
+    element-copy-out-wide-byte
+    wide-byte-requires
     loop-holds
     slots-at-requires-2
     count-marked-requires
     add-if2
-    element-copy-out-wide-rest-2
-    wide-rest-requires-2
+    element-copy-out-wide-byte-2
+    wide-byte-requires-2
     add-if2-2
     mark-own-requires
     mark-own-requires-2

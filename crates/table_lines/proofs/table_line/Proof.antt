@@ -1,9 +1,6 @@
 -- `table_line` meets its contract: each of its three ways writes the text that the definition has for it (`TablesWritten`). Assumes nothing.
-use mathlib.Core.Path.{_≡_}
-use mathlib.Core.Bool.{true}
-use Prim.Native.Nat.{_≤_}
 use native.Mathlib.Omega.{arith}
-use lib.ListN.{length, length-take}
+use lib.ListN.{length-take}
 use borrow.Author.Needs.{needs}
 use borrow.Author.Tests.{not-true, not-false}
 use Rattle.lines.proofs.CellsSoFar.{line-fits}
@@ -14,19 +11,9 @@ use Rattle.table_lines.proofs.TablesWritten.{tables-after, table-line-w
 use Rattle.table_lines.proofs.table_line.Statement.{statement}
 use Rattle.table_lines.proofs.table_line.Tie as tie
 
--- the line's cells stand inside its array
-fits : (c : tie.After-read-line) → c .read-line .result .len ≤ length (c .read-line .result .cells)
-fits c = rw (c .read-line .ensures) (line-fits _)
-
--- where the frontier is read: the line was read, it is readable, and the answer is refresh_matrixs' to its position
+-- where the frontier is read: the line that was read
 abbrev read : tie.After-refresh-matrixs → tie.After-read-line
 read c = c .before .before .before .before .before
-
-readable : (c : tie.After-refresh-matrixs) → read c .read-line .result .readable ≡ true
-readable c = not-false (read c .read-line .result .readable) (c .before .before .before .if1 .left)
-
-answered : (c : tie.After-refresh-matrixs) → c .refresh-matrixs .result ≡ answerTo (read c .read-line .result)
-answered c = c .refresh-matrixs .ensures
 
 read-line-requires : tie.Need-read-line-requires
 read-line-requires c κs = search needs
@@ -48,10 +35,10 @@ returns c =
     (not-true (line .read-line .result .readable) (c .before .before .before .before .before .if1 .taken)) (c .before .before .put-bytes .ensures)
 
 array-share-prefix-cells : tie.Need-array-share-prefix-cells
-array-share-prefix-cells c = fits (c .before .before .before)
+array-share-prefix-cells c = line-fits _ _ (c .before .before .before .read-line .ensures)
 
 slice-aggregate-refresh-matrixs : tie.Need-slice-aggregate-refresh-matrixs
-slice-aggregate-refresh-matrixs c = simp length-take (omega (arith, fits (c .before .before .before .before)))
+slice-aggregate-refresh-matrixs c = simp length-take (omega (arith, line-fits _ _ (c .before .before .before .before .read-line .ensures)))
 
 refresh-matrixs-requires : tie.Need-refresh-matrixs-requires
 refresh-matrixs-requires c κs = search needs
@@ -66,10 +53,10 @@ enum-told : tie.Need-enum-told
 enum-told c = search needs
 
 array-share-prefix-cells-2 : tie.Need-array-share-prefix-cells-2
-array-share-prefix-cells-2 c = fits (c .before .before .before .before .before .before .before .before)
+array-share-prefix-cells-2 c = line-fits _ _ (c .before .before .before .before .before .before .before .before .read-line .ensures)
 
 slice-aggregate-put-tables : tie.Need-slice-aggregate-put-tables
-slice-aggregate-put-tables c = simp length-take (omega (arith, fits (c .before .before .before .before .before .before .before .before .before)))
+slice-aggregate-put-tables c = simp length-take (omega (arith, line-fits _ _ (c .before .before .before .before .before .before .before .before .before .read-line .ensures)))
 
 put-tables-requires : tie.Need-put-tables-requires
 put-tables-requires c κs = search needs
@@ -81,7 +68,7 @@ returns-2 : tie.Need-returns-2
 returns-2 c =
     let told = c .before .before .before .before .before .tested .given .1 in
     let call = c .before .before .before .before .before .before .before in
-    table-line-written _ _ (read call .read-line .ensures) (readable call) _ (answered call)
+    table-line-written _ _ (read call .read-line .ensures) (not-false _ (call .before .before .before .if1 .left)) _ (call .refresh-matrixs .ensures)
     (tables-after _ _ _ told (c .before .before .put-refused .ensures))
 
 same-length-3 : tie.Need-same-length-3
@@ -91,7 +78,7 @@ returns-3 : tie.Need-returns-3
 returns-3 c =
     let told = c .before .before .before .before .before in
     let call = told .before .before in
-    table-line-written _ _ (read call .read-line .ensures) (readable call) _ (answered call)
+    table-line-written _ _ (read call .read-line .ensures) (not-false _ (call .before .before .before .if1 .left)) _ (call .refresh-matrixs .ensures)
     (tables-after _ _ _ (told .enum-told .given .1) (c .before .before .put-tables .ensures))
 
 pub table-line-spec : {M : Type 1} → statement M

@@ -8,7 +8,7 @@ use Rattle.refusals.specs.Tests.{positionTested}
 use Rattle.refusals.proofs.Accepted.{AcceptedPosition, accepted-position}
 use Rattle.blocks.specs.Blocks.{Block}
 use Rattle.frontier.proofs.ReadFrontier.{read-whole, read-frontier}
-use Rattle.groups.proofs.FrontierBlocks.{read-combinable}
+use Rattle.frontier.proofs.CombinableBlocks.{read-combinable}
 use Rattle.tables.specs.Tables.{blockAsked}
 use Rattle.tables.proofs.TableCalls.{tests-refuse, tests-accept, table-call}
 use Rattle.tables.proofs.cal_all_solution.Statement.{statement}

@@ -8,10 +8,10 @@ use lib.ListN.{length}
 use Rattle.refusals.specs.declared.Tested.the-variants.{Accepted}
 use Rattle.refusals.specs.Tests.{boardTested}
 use Rattle.refusals.proofs.Accepted.{AcceptedBoard, accepted-board, lent-length}
-use Rattle.fitting.proofs.Admitted.{tested-accepted}
 use Rattle.verdict.proofs.DemandThree.{tests-refuse, tests-accept, refusal-demand-3, answer-demand-3}
 use Rattle.verdict.proofs.is_solvable.Statement.{statement}
 use Rattle.verdict.proofs.is_solvable.Tie as tie
+use Rattle.verdict.proofs.Admitted.{tested-accepted}
 
 slice-aggregate-test-board : tie.Need-slice-aggregate-test-board
 slice-aggregate-test-board c = refl

@@ -30,32 +30,32 @@ returns c = no-anchor _ _ _ _ _ _ (λ e. c .if1 .taken (c .before .stands .ensur
 loop-holds : tie.Need-loop-holds Inv-loop μ-loop
 loop-holds c = (answers-start _ _ _ _ _ _, omega arith)
 
-mul-wide : tie.Need-mul-wide Inv-loop μ-loop
-mul-wide c = search needs
+mul-wide-byte : tie.Need-mul-wide-byte Inv-loop μ-loop
+mul-wide-byte c = search needs
 
-index-1-wide : tie.Need-index-1-wide Inv-loop μ-loop
-index-1-wide c = search needs
+index-1-wide-byte : tie.Need-index-1-wide-byte Inv-loop μ-loop
+index-1-wide-byte c = search needs
 
-index-2-wide : tie.Need-index-2-wide Inv-loop μ-loop
-index-2-wide c = search needs
+index-2-wide-byte : tie.Need-index-2-wide-byte Inv-loop μ-loop
+index-2-wide-byte c = search needs
 
-wide-requires : tie.Need-wide-requires Inv-loop μ-loop
-wide-requires c κs = search needs
+wide-byte-requires : tie.Need-wide-byte-requires Inv-loop μ-loop
+wide-byte-requires c κs = search needs
 
 add-down : tie.Need-add-down Inv-loop μ-loop
 add-down c = search needs
 
-mul-wide-2 : tie.Need-mul-wide-2 Inv-loop μ-loop
-mul-wide-2 c = search needs
+mul-wide-byte-2 : tie.Need-mul-wide-byte-2 Inv-loop μ-loop
+mul-wide-byte-2 c = search needs
 
-index-1-wide-2 : tie.Need-index-1-wide-2 Inv-loop μ-loop
-index-1-wide-2 c = search needs
+index-1-wide-byte-2 : tie.Need-index-1-wide-byte-2 Inv-loop μ-loop
+index-1-wide-byte-2 c = search needs
 
-index-2-wide-2 : tie.Need-index-2-wide-2 Inv-loop μ-loop
-index-2-wide-2 c = search needs
+index-2-wide-byte-2 : tie.Need-index-2-wide-byte-2 Inv-loop μ-loop
+index-2-wide-byte-2 c = search needs
 
-wide-requires-2 : tie.Need-wide-requires-2 Inv-loop μ-loop
-wide-requires-2 c κs = search needs
+wide-byte-requires-2 : tie.Need-wide-byte-requires-2 Inv-loop μ-loop
+wide-byte-requires-2 c κs = search needs
 
 add-across : tie.Need-add-across Inv-loop μ-loop
 add-across c = search needs
@@ -86,7 +86,7 @@ returns-2 c =
     let s = c .before .before .before .before in
     let i = s .before .before .before .before .before in
     let start = i .before .before .before .before in
-    turn-ends _ _ _ _ _ _ (mine (i .before .before)) (start .pre .0) _ (i .loop-test .taken) _ _ _ (s .before .before .before .wide .ensures .0) (s .before .wide2 .ensures .0) (s .stands2 .ensures) (i .before .loop .inv .0) (c .before .before .if2 .taken) (c .if3 .taken)
+    turn-ends _ _ _ _ _ _ (mine (i .before .before)) (start .pre .0) _ (i .loop-test .taken) _ _ _ (s .before .before .before .wide-byte .ensures .0) (s .before .wide-byte2 .ensures .0) (s .stands2 .ensures) (i .before .loop .inv .0) (c .before .before .if2 .taken) (c .if3 .taken)
 
 add-k : tie.Need-add-k Inv-loop μ-loop
 add-k c = search needs
@@ -99,34 +99,34 @@ loop-again c =
     let s = c .before .before .before .before in
     let i = s .before .before .before .before .before in
     let start = i .before .before .before .before in
-    (turn-further _ _ _ _ _ _ (mine (i .before .before)) (start .pre .0) _ (i .loop-test .taken) _ _ _ (s .before .before .before .wide .ensures .0) (s .before .wide2 .ensures .0) (s .stands2 .ensures) (i .before .loop .inv .0) (c .before .before .if2 .taken) (c .if3 .left), omega arith)
+    (turn-further _ _ _ _ _ _ (mine (i .before .before)) (start .pre .0) _ (i .loop-test .taken) _ _ _ (s .before .before .before .wide-byte .ensures .0) (s .before .wide-byte2 .ensures .0) (s .stands2 .ensures) (i .before .loop .inv .0) (c .before .before .if2 .taken) (c .if3 .left), omega arith)
 
-mul-wide-3 : tie.Need-mul-wide-3 Inv-loop μ-loop
-mul-wide-3 c = search needs
+mul-wide-byte-3 : tie.Need-mul-wide-byte-3 Inv-loop μ-loop
+mul-wide-byte-3 c = search needs
 
-index-1-wide-3 : tie.Need-index-1-wide-3 Inv-loop μ-loop
-index-1-wide-3 c = search needs
+index-1-wide-byte-3 : tie.Need-index-1-wide-byte-3 Inv-loop μ-loop
+index-1-wide-byte-3 c = search needs
 
-index-2-wide-3 : tie.Need-index-2-wide-3 Inv-loop μ-loop
-index-2-wide-3 c = search needs
+index-2-wide-byte-3 : tie.Need-index-2-wide-byte-3 Inv-loop μ-loop
+index-2-wide-byte-3 c = search needs
 
-wide-requires-3 : tie.Need-wide-requires-3 Inv-loop μ-loop
-wide-requires-3 c κs = search needs
+wide-byte-requires-3 : tie.Need-wide-byte-requires-3 Inv-loop μ-loop
+wide-byte-requires-3 c κs = search needs
 
 loop-less-2 : tie.Need-loop-less-2 Inv-loop μ-loop
 loop-less-2 c =
     let s = c .before .before .before .before in
     let i = s .before .before .before .before .before in
     let start = i .before .before .before .before in
-    omega (arith, c .wide3 .ensures .0, leads-on _ (start .pre .0) _ (i .loop-test .taken))
+    omega (arith, c .wide-byte3 .ensures .0, leads-on _ (start .pre .0) _ (i .loop-test .taken))
 
 loop-again-2 : tie.Need-loop-again-2 Inv-loop μ-loop
 loop-again-2 c =
     let s = c .before .before .before .before in
     let i = s .before .before .before .before .before in
     let start = i .before .before .before .before in
-    let next = c .wide3 .ensures .0 in
-    (turn-past _ _ _ _ _ _ (mine (i .before .before)) (start .pre .0) _ (i .loop-test .taken) _ _ _ (s .before .before .before .wide .ensures .0) (s .before .wide2 .ensures .0) (s .stands2 .ensures) (i .before .loop .inv .0) (c .before .before .if2 .left) _ next, omega (arith, next, leads-within _ (start .pre .0) _ (i .loop-test .taken)))
+    let next = c .wide-byte3 .ensures .0 in
+    (turn-past _ _ _ _ _ _ (mine (i .before .before)) (start .pre .0) _ (i .loop-test .taken) _ _ _ (s .before .before .before .wide-byte .ensures .0) (s .before .wide-byte2 .ensures .0) (s .stands2 .ensures) (i .before .loop .inv .0) (c .before .before .if2 .left) _ next, omega (arith, next, leads-within _ (start .pre .0) _ (i .loop-test .taken)))
 
 returns-3 : tie.Need-returns-3 Inv-loop μ-loop
 returns-3 c =
@@ -142,15 +142,15 @@ found-at-spec =
     stands-requires
     returns
     loop-holds
-    mul-wide
-    index-1-wide
-    index-2-wide
-    wide-requires
+    mul-wide-byte
+    index-1-wide-byte
+    index-2-wide-byte
+    wide-byte-requires
     add-down
-    mul-wide-2
-    index-1-wide-2
-    index-2-wide-2
-    wide-requires-2
+    mul-wide-byte-2
+    index-1-wide-byte-2
+    index-2-wide-byte-2
+    wide-byte-requires-2
     add-across
     stands-requires-2
     mul-if2
@@ -163,10 +163,10 @@ found-at-spec =
     add-k
     loop-less
     loop-again
-    mul-wide-3
-    index-1-wide-3
-    index-2-wide-3
-    wide-requires-3
+    mul-wide-byte-3
+    index-1-wide-byte-3
+    index-2-wide-byte-3
+    wide-byte-requires-3
     loop-less-2
     loop-again-2
     returns-3)

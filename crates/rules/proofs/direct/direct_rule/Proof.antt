@@ -9,16 +9,17 @@ use Rattle.blocks.specs.BlockSets.{allEquations, blockSet, blocksOf}
 use Rattle.chunks.specs.Chunks.{chunkMatrixes}
 use Rattle.rules.specs.Direct.{directLeft, negative}
 use Rattle.rules.specs.Answers.{Sweeps}
-use Rattle.rules.proofs.WholeSets.{few-blocks, few-equations, equations-of-all, slots-of-all, negative-of-all}
+use Rattle.rules.proofs.WholeSets.{few-equations, equations-of-all, slots-of-all, negative-of-all}
 use Rattle.rules.proofs.LeftByMarks.{left-of-all}
 use Rattle.rules.proofs.SmallerBlocks.{direct-fits}
 use Rattle.rules.proofs.DirectAnswer.{answer-contradicted, contradicted-whole, answer-found}
 use Rattle.rules.proofs.direct.direct_rule.Statement.{statement}
 use Rattle.rules.proofs.direct.direct_rule.Tie as tie
 use Rattle.blocks.proofs.Reading.{blocks-of-set}
+use Rattle.blocks.proofs.Behind.{blocks-few}
 
 begin-at-requires : tie.Need-begin-at-requires
-begin-at-requires c κs = let s = c .before .before .before .before in few-blocks (s .args .t1) (s .pre .0)
+begin-at-requires c κs = let s = c .before .before .before .before in blocks-few (s .args .t1) (s .pre .0)
 
 -- ---- the two sweeps over the equations of all blocks
 
@@ -75,7 +76,7 @@ left-read c =
     ap blocksOf (left-made c) ∙ blocks-of-set (map directLeft (all-blocks c)) (direct-fits (all-blocks c) (s .pre .0 .fits))
 
 begin-at-requires-2 : tie.Need-begin-at-requires-2
-begin-at-requires-2 c κs = let l = c .before .before .left-blocks in few-blocks (l .result) (l .ensures .1)
+begin-at-requires-2 c κs = let l = c .before .before .left-blocks in blocks-few (l .result) (l .ensures .1)
 
 has-negative-requires : tie.Need-has-negative-requires
 has-negative-requires c κs = let l = c .before .before .before .before .before .left-blocks in few-equations (l .result) (l .ensures .1) _ (c .before .before .begin-at2 .ensures)

@@ -6,9 +6,9 @@ use borrow.Author.Needs.{needs}
 use Rattle.grid.specs.Window.{neighbours}
 use Rattle.blocks.specs.Blocks.{Block}
 use Rattle.sources.specs.Equations.{plainEquations}
+use Rattle.frontier.proofs.CombinableBlocks.{frontier-combinable}
 use Rattle.rules.specs.Answers.{ruleAnswer, listsIn, sweptLists}
 use Rattle.subtraction.specs.Pairs.{minusLists}
-use Rattle.groups.proofs.FrontierBlocks.{frontier-combinable}
 use Rattle.solutions.specs.Enumeration.{enumerated}
 use Rattle.verdict.proofs.ThreeFindings.{direct-finds, later-finds, equations-fit, equations-read, read-as, read-whole, read-ready}
 use Rattle.verdict.proofs.finding.find_cells.Statement.{statement}

@@ -1,5 +1,5 @@
 -- The boards that the tests of a board call let through are the accepted boards of the mathematics, for any neighbours: each safe cell is 0 to 8 and
--- has its number of neighbouring mines. Rests on what an acceptance tells (`refusals`). Assumes nothing.
+-- has its number of neighbouring mines. Rests on what an acceptance tells (`refusals`), and on `Own` of the crate fitting. Assumes nothing.
 use mathlib.Core.Path.{_≡_, sym, _∙_}
 use mathlib.Core.Logic.{_⊎_, inl, inr, _≢_}
 use mathlib.Core.Bool.{Bool, true, _||_}

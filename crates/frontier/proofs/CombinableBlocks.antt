@@ -1,7 +1,7 @@
 -- The blocks of a frontier are blocks that the code can combine (`Combinable`): they have a cell; their cells and equations are at most 1,024, none twice and
 -- inside the block; an equation has at most eight cells; and a cell stands in at least one equation and in at most eight, since the equations of a block
 -- come from different sources, and a source beside a cell is one of its neighbours. `near` is mutual and lists at most eight neighbours of a cell, none
--- twice. Rests on Partition and BlockLaws of the crate frontier. Assumes nothing.
+-- twice. Rests on Partition and BlockLaws, and on `equation-in-column` of the crate groups. Assumes nothing.
 use mathlib.Core.Path.{_≡_, refl, sym, ap, _∙_}
 use mathlib.Core.Bool.{Bool, true, false, not, _&&_}
 use mathlib.Core.List.{List, [], _∷_, List·Memᴰ}
