@@ -1,4 +1,4 @@
--- Cited by no public contract: what the functions that answer one record are told and tell. Assumes nothing.
+-- Cited by no public contract. What the functions that answer one record are told and tell. Assumes nothing.
 use mathlib.Core.Path.{_≡_}
 use mathlib.Core.Bool.{Bool, true, false, cond}
 use mathlib.Core.List.{List}
