@@ -4,7 +4,6 @@ pub mod Handed
 pub mod Deductions
 -- what specs/Calls.antt says of the calls: the lists are true, and enumeration's are complete
 pub mod SoundCalls
-pub mod EnumerationCalls
 -- where a call refuses with 6, in words of the position
 pub mod Contradictions
 -- what is answered can be read: counts are within the lists, and blocks fit

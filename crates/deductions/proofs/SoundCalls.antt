@@ -1,6 +1,6 @@
 -- What specs/Calls.antt says of a call of any rule, from the equation that the call ensures. An accepted call hands on the lists of a rule that is sound at
--- the position: they are what stands at the front of the slices, and of what is marked. A refused call keeps all. Rests on Deductions, Soundness of the crate
--- rules and the laws of what is written. Assumes nothing.
+-- the position: they are what stands at the front of the slices, and of what is marked. A refused call keeps all. And solve_enumerate is complete, since
+-- enumeration is. Rests on Deductions, Soundness of the crate rules, Completeness of the crate solutions and the laws of what is written. Assumes nothing.
 use mathlib.Core.Path.{_≡_, refl, sym, ap, _∙_}
 use mathlib.Core.Logic.{inl, inr, _≢_}
 use mathlib.Core.Bool.{Bool, true, false}
@@ -12,8 +12,11 @@ use lib.Seq.{sets, length-sets}
 use Rattle.lists.specs.Lists.{has, nodup}
 use Rattle.lists.proofs.Tests.{Decided, decided, clash}
 use Rattle.lists.proofs.Members.{getD-has}
+use Rattle.lists.proofs.PlacesAndRanges.{mem-place}
+use Rattle.lists.proofs.Unions.{has-mem}
 use Rattle.grid.specs.Cells.{shows}
 use Rattle.grid.specs.Window.{neighbours}
+use Rattle.grid.proofs.Neighbours.{neighbours-nodup, neighbours-few}
 use Rattle.refusals.specs.declared.Refusal.{Refusal}
 use Rattle.refusals.specs.declared.Refusal.the-variants.{Contradiction}
 use Rattle.refusals.specs.declared.Tested.{Tested}
@@ -31,10 +34,12 @@ use Rattle.marks.specs.Written.{written}
 use Rattle.marks.proofs.WrittenCells.{written-length, written-shows, written-elsewhere}
 use Rattle.rules.specs.Found.{Found}
 use Rattle.rules.proofs.Soundness.{SoundAt, listed-closed, listed-once, listed-few, listed-apart}
+use Rattle.solutions.proofs.Completeness.{enumeration-complete-at}
 use Rattle.deductions.specs.Answers.{Seen, seen, refusedAnswer, refused, afterTests, deduction}
-use Rattle.deductions.specs.Calls.{ListsTrue, OnlyMarked, AllKept, SoundCall}
-use Rattle.deductions.specs.ByRule.{ruleOn}
+use Rattle.deductions.specs.Calls.{ListsTrue, OnlyMarked, AllKept, SoundCall, AmongFirst, CompleteCall}
+use Rattle.deductions.specs.ByRule.{ruleOn, Completes}
 use Rattle.deductions.specs.declared.Rule.{Rule}
+use Rattle.deductions.specs.declared.Rule.the-variants.{Direct, Minus, Enumerate}
 use Rattle.deductions.specs.declared.answer.DeductionAnswer.{DeductionAnswer}
 use Rattle.deductions.proofs.Handed.{after-contradiction, after-lists}
 use Rattle.deductions.proofs.Deductions.{sound-on}
@@ -71,6 +76,12 @@ module _ {near : ℕ → List ℕ} {p l lent after : List ℕ} {n : ℕ} (a : At
   -- and so is on the board
   front-on-board : (i : ℕ) → i < n → getD after i 0 < length p
   front-on-board i h = on-board p (getD after i 0) (omega (arith, front-closed i h))
+
+  -- and each cell of the list is one of them
+  front-among : (c : ℕ) → has l c ≡ true → AmongFirst n after c
+  front-among c h =
+      let (i, within, is) = mem-place l 0 (has-mem l c h) in
+      (i, omega (arith, a .counted), rw (a .stored) (front-read lent l fits i 0 within ∙ is))
 
   -- none stands twice
   front-once : nodup (take n after) ≡ true
@@ -262,3 +273,32 @@ module _ (rule : Rule) (edgeless : Bool) (rows columns : ℕ) (p s m : List ℕ)
         refuses = λ x t. ap testedNumber (refused-by-tests found p s m r p′ s′ m′ tests call x t);
         accepts = λ t layout fit. ap testedNumber (accepted found p s m r p′ s′ m′ tests call t (sound .no-contradiction layout fit));
       }
+
+-- ---- a call of enumeration, where some layout fits
+
+module _ (edgeless : Bool) (rows columns : ℕ) (p s m : List ℕ) (r : DeductionAnswer) (p′ s′ m′ : List ℕ) where
+  enumerate-call-complete : seen r p′ s′ m′ ≡ deduction (ruleOn Enumerate) edgeless rows columns p s m → deductionTested rows columns p (length s) (length m) ≡ Accepted
+      → (layout : List Bool) → Fits (neighbours edgeless rows columns) p layout
+      → CompleteCall (neighbours edgeless rows columns) p (testedNumber (r .tested)) (r .safe) (r .mines) s′ m′
+  enumerate-call-complete call tests layout fit =
+      let near = neighbours edgeless rows columns in
+      let f = ruleOn Enumerate (frontier near p) in
+      let sound = sound-on Enumerate edgeless rows columns p in
+      let whole = enumeration-complete-at near (neighbours-nodup edgeless rows columns) (neighbours-few edgeless rows columns) p layout fit in
+      let a = accepted f p s m r p′ s′ m′ (deductionTested rows columns p (length s) (length m)) call tests (sound .no-contradiction layout fit) in
+      let safe-room = safe-room Enumerate edgeless rows columns p s m r p′ s′ m′ call a in
+      let mines-room = mines-room Enumerate edgeless rows columns p s m r p′ s′ m′ call a in
+      let g = lists Enumerate edgeless rows columns p s m r p′ s′ m′ call a in
+      record {
+        is-accepted = ap testedNumber a;
+        safe-found = λ c d closed is-open beside free.
+            front-among (safe-front near f p s m r p′ s′ m′ sound safe-room mines-room g) c (whole .safe-found c d closed is-open beside free);
+        mines-found = λ c d closed is-open beside mined.
+            front-among (mines-front near f p s m r p′ s′ m′ sound safe-room mines-room g) c (whole .mines-found c d closed is-open beside mined);
+      }
+
+  pub call-complete : (rule : Rule) → seen r p′ s′ m′ ≡ deduction (ruleOn rule) edgeless rows columns p s m
+      → Completes rule edgeless rows columns p s m (testedNumber (r .tested)) (r .safe) (r .mines) s′ m′
+  call-complete Direct call = tt
+  call-complete Minus call = tt
+  call-complete Enumerate call = enumerate-call-complete call

@@ -1,6 +1,5 @@
 -- `deduce` meets its contract: a refusal by the tests ends the call; else the frontier is read, the rule runs on it and its answer is handed to the caller; the
--- other clauses are laws of the call, from this equation. Rests on Deductions, SoundCalls, EnumerationCalls, Contradictions and the contracts of the calls.
--- Assumes nothing.
+-- other clauses are laws of the call, from this equation. Rests on Deductions, SoundCalls, Contradictions and the contracts of the calls. Assumes nothing.
 use mathlib.Core.Path.{_≡_, sym, _∙_}
 use mathlib.Core.Bool.{Bool}
 use mathlib.Core.List.{List}
@@ -18,28 +17,20 @@ use Rattle.deductions.specs.Answers.{seen, deduction}
 use Rattle.deductions.specs.Calls.{SoundCall}
 use Rattle.deductions.specs.ByRule.{ruleOn, Completes, Refuses}
 use Rattle.deductions.specs.declared.Rule.{Rule}
-use Rattle.deductions.specs.declared.Rule.the-variants.{Direct, Minus, Enumerate}
 use Rattle.deductions.specs.declared.answer.DeductionAnswer.{DeductionAnswer}
 use Rattle.deductions.proofs.Deductions.{tests-refuse, rule-held, rule-seen}
-use Rattle.deductions.proofs.SoundCalls.{call-sound}
-use Rattle.deductions.proofs.EnumerationCalls.{enumerate-call-complete}
+use Rattle.deductions.proofs.SoundCalls.{call-sound, call-complete}
 use Rattle.deductions.proofs.Contradictions.{call-refuses-by-rule}
 use Rattle.deductions.proofs.deduce.Statement.{statement}
 use Rattle.deductions.proofs.deduce.Tie as tie
 
 module _ (edgeless : Bool) (rows columns : ℕ) (p s m : List ℕ) (r : DeductionAnswer) (p′ s′ m′ : List ℕ) where
-  completes : (rule : Rule) → seen r p′ s′ m′ ≡ deduction (ruleOn rule) edgeless rows columns p s m
-      → Completes rule edgeless rows columns p s m (testedNumber (r .tested)) (r .safe) (r .mines) s′ m′
-  completes Direct is = tt
-  completes Minus is = tt
-  completes Enumerate is = enumerate-call-complete edgeless rows columns p s m r p′ s′ m′ is
-
   -- the clauses, by the first
   clauses : (rule : Rule) → seen r p′ s′ m′ ≡ deduction (ruleOn rule) edgeless rows columns p s m
       → (seen r p′ s′ m′ ≡ deduction (ruleOn rule) edgeless rows columns p s m)
       × (SoundCall edgeless rows columns p s m (testedNumber (r .tested)) (r .safe) (r .mines) p′ s′ m′
       × (Completes rule edgeless rows columns p s m (testedNumber (r .tested)) (r .safe) (r .mines) s′ m′ × Refuses rule edgeless rows columns p s m (testedNumber (r .tested))))
-  clauses rule is = (is, (call-sound rule edgeless rows columns p s m r p′ s′ m′ is, (completes rule is, call-refuses-by-rule edgeless rows columns p s m r p′ s′ m′ rule is)))
+  clauses rule is = (is, (call-sound rule edgeless rows columns p s m r p′ s′ m′ is, (call-complete edgeless rows columns p s m r p′ s′ m′ rule is, call-refuses-by-rule edgeless rows columns p s m r p′ s′ m′ rule is)))
 
 test-deduction-requires : tie.Need-test-deduction-requires
 test-deduction-requires c κs = search needs
