@@ -16,6 +16,7 @@ use Rattle.lists.proofs.Tests.{Decided, decided}
 use Rattle.refusals.specs.declared.Refusal.{Refusal}
 use Rattle.refusals.specs.declared.Refusal.the-variants.{Mark, Short}
 use Rattle.records.specs.declared.BoardMark.{BoardMark}
+use Rattle.records.specs.declared.Record.{Record}
 use Rattle.records.specs.declared.Record.the-variants.{End, Damaged, Whole}
 use Rattle.records.specs.Records.{recordLength, boardMark, knownMark, recordOf, cellsIn}
 
@@ -95,58 +96,39 @@ record-whole (x ∷ y ∷ l) h m s = rw (m, le-ltb (length (x ∷ y ∷ l)) (rec
 
 -- ---- read back from what it is
 
--- one of four kinds, each with what it tells
-pub data Kind (input : List ℕ) : Type 0 where
-  none : input ≡ [] → recordOf input ≡ End → Kind input
-  short : length input < recordLength input → recordOf input ≡ Damaged Short → Kind input
-  unknown : 2 ≤ length input → knownMark (markOf input) ≡ false → recordOf input ≡ Damaged Mark → Kind input
-  whole : knownMark (markOf input) ≡ true → recordLength input ≤ length input
-      → recordOf input ≡ Whole (markOf input) (getD input 2 0) (getD input 3 0) (getD input 4 0) (getD input 5 0) → Kind input
+-- a damaged record is cut short, or has no known mark
+abbrev pub DamagedBy : List ℕ → Refusal → Type 0
+DamagedBy input refusal = ((refusal ≡ Short) × (length input < recordLength input)) ⊎ ((refusal ≡ Mark) × (2 ≤ length input) × (knownMark (markOf input) ≡ false))
 
-pub kind-of : (input : List ℕ) → Kind input
-kind-of [] = none refl (sym (record-none [] refl))
-kind-of (x ∷ []) = short (omega (arith, six-or-more (x ∷ []))) (sym (record-lone (x ∷ []) (λ h. omega arith) (omega arith)))
-kind-of (x ∷ y ∷ l) = go (decided (knownMark (boardMark x y))) (decLt (length (x ∷ y ∷ l)) (recordLength (x ∷ y ∷ l)))
+-- what each answer tells of the input; a whole record has a known mark, and stands inside
+abbrev Told : List ℕ → Record → Type 0
+Told input End = input ≡ []
+Told input (Damaged refusal) = DamagedBy input refusal
+Told input (Whole mark rows columns row column) = (knownMark (markOf input) ≡ true) × (recordLength input ≤ length input)
+
+told : (input : List ℕ) → Told input (recordOf input)
+told [] = rw (sym (record-none [] refl)) refl
+told (x ∷ []) = rw (sym (record-lone (x ∷ []) (λ h. omega arith) (omega arith))) (inl (refl, omega (arith, six-or-more (x ∷ []))))
+told (x ∷ y ∷ l) = go (decided (knownMark (boardMark x y))) (decLt (length (x ∷ y ∷ l)) (recordLength (x ∷ y ∷ l)))
   where
     two : 2 ≤ length (x ∷ y ∷ l)
     two = omega arith
 
-    go : Decided (knownMark (boardMark x y)) → Dec (length (x ∷ y ∷ l) < recordLength (x ∷ y ∷ l)) → Kind (x ∷ y ∷ l)
-    go (inr m) s = unknown two m (sym (record-unknown (x ∷ y ∷ l) two m))
-    go (inl m) (yes s) = short s (sym (record-short (x ∷ y ∷ l) two m s))
-    go (inl m) (no s) = whole m (omega arith) (sym (record-whole (x ∷ y ∷ l) two m (omega arith)))
+    go : Decided (knownMark (boardMark x y)) → Dec (length (x ∷ y ∷ l) < recordLength (x ∷ y ∷ l)) → Told (x ∷ y ∷ l) (recordOf (x ∷ y ∷ l))
+    go (inr m) s = rw (sym (record-unknown (x ∷ y ∷ l) two m)) (inr (refl, two, m))
+    go (inl m) (yes s) = rw (sym (record-short (x ∷ y ∷ l) two m s)) (inl (refl, s))
+    go (inl m) (no s) = rw (sym (record-whole (x ∷ y ∷ l) two m (omega arith))) (m, omega arith)
 
 module _ (input : List ℕ) where
-  -- the input has ended where nothing is left of it
   pub end-nothing : recordOf input ≡ End → input ≡ []
-  end-nothing is = go (kind-of input)
-    where
-      go : Kind input → input ≡ []
-      go (none e _) = e
-      go (short _ k) = let z : _≡_ {A = ℕ} 0 1 = cc in absurd (omega arith)
-      go (unknown _ _ k) = let z : _≡_ {A = ℕ} 0 1 = cc in absurd (omega arith)
-      go (whole _ _ k) = let z : _≡_ {A = ℕ} 0 1 = cc in absurd (omega arith)
+  end-nothing is = rw is at (told input)
 
-  -- a damaged record is cut short or has no known mark
-  pub damaged-kinds : (refusal : Refusal) → recordOf input ≡ Damaged refusal → ((refusal ≡ Short) × (length input < recordLength input)) ⊎ (refusal ≡ Mark)
-  damaged-kinds refusal is = go (kind-of input)
-    where
-      go : Kind input → ((refusal ≡ Short) × (length input < recordLength input)) ⊎ (refusal ≡ Mark)
-      go (none _ k) = let z : _≡_ {A = ℕ} 0 1 = cc in absurd (omega arith)
-      go (short h k) = inl (cc, h)
-      go (unknown _ _ k) = inr (cc)
-      go (whole _ _ k) = let z : _≡_ {A = ℕ} 0 1 = cc in absurd (omega arith)
+  pub damaged-kinds : (refusal : Refusal) → recordOf input ≡ Damaged refusal → DamagedBy input refusal
+  damaged-kinds refusal is = rw is at (told input)
 
-  -- a whole one has a known mark, and stands inside the input
   pub whole-known : (mark : BoardMark) (rows columns row column : ℕ) → recordOf input ≡ Whole mark rows columns row column
       → (knownMark (markOf input) ≡ true) × (recordLength input ≤ length input)
-  whole-known mark rows columns row column is = go (kind-of input)
-    where
-      go : Kind input → (knownMark (markOf input) ≡ true) × (recordLength input ≤ length input)
-      go (none _ k) = let z : _≡_ {A = ℕ} 0 1 = cc in absurd (omega arith)
-      go (short _ k) = let z : _≡_ {A = ℕ} 0 1 = cc in absurd (omega arith)
-      go (unknown _ _ k) = let z : _≡_ {A = ℕ} 0 1 = cc in absurd (omega arith)
-      go (whole m h k) = (m, h)
+  whole-known mark rows columns row column is = rw is at (told input)
 
   pub whole-inside : (mark : BoardMark) (rows columns row column : ℕ) → recordOf input ≡ Whole mark rows columns row column → recordLength input ≤ length input
   whole-inside mark rows columns row column is = whole-known mark rows columns row column is .1
@@ -198,10 +180,8 @@ module _ (input rest : List ℕ) where
 
   -- an unknown mark
   pub mark-beside : recordOf input ≡ Damaged Mark → recordOf (input ++ rest) ≡ Damaged Mark
-  mark-beside is = go (kind-of input)
+  mark-beside is = go (damaged-kinds input Mark is)
     where
-      go : Kind input → recordOf (input ++ rest) ≡ Damaged Mark
-      go (none _ k) = let z : _≡_ {A = ℕ} 0 1 = cc in absurd (omega arith)
-      go (short _ k) = let z : _≡_ {A = ℕ} 0 1 = cc in absurd (omega arith)
-      go (unknown h m k) = sym (record-unknown (input ++ rest) (omega (arith, h, longer)) (rw (same-mark h) m))
-      go (whole _ _ k) = let z : _≡_ {A = ℕ} 0 1 = cc in absurd (omega arith)
+      go : DamagedBy input Mark → recordOf (input ++ rest) ≡ Damaged Mark
+      go (inl (e, _)) = let z : _≡_ {A = ℕ} 0 1 = cc in absurd (omega arith)
+      go (inr (_, h, m)) = sym (record-unknown (input ++ rest) (omega (arith, h, longer)) (rw (same-mark h) m))
