@@ -132,5 +132,13 @@ pub fn solve_enumerate(
         → CompleteCall (neighbours edgeless rows columns) (now (position .entry)) (testedNumber (r .tested)) (r .safe) (r .mines) (now (safe .exit)) (now (mines .exit))) ⌝ }
     ensures six { λ r. ⌜ EnumerateRefuses edgeless rows columns (now (position .entry)) (now (safe .entry)) (now (mines .entry)) (testedNumber (r .tested)) ⌝ }
 {
-    deduce(Rule::Enumerate, edgeless, rows, columns, position, safe, mines)
+    deduce(
+        Rule::Enumerate,
+        edgeless,
+        rows,
+        columns,
+        position,
+        safe,
+        mines,
+    )
 }

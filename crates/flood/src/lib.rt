@@ -101,7 +101,15 @@ pub fn refresh_board(
         n -= 1;
         let c = wide(stack[n]);
         if board[c] == 0 {
-            let near = neighbours_showing(edgeless, rows, columns, position, c / columns, c % columns, 10);
+            let near = neighbours_showing(
+                edgeless,
+                rows,
+                columns,
+                position,
+                c / columns,
+                c % columns,
+                10,
+            );
             n = open_list(board, position, near, &mut stack, n);
         }
     }

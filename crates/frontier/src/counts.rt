@@ -12,7 +12,14 @@ ghost use Rattle.grid.specs.Window.{neighbours, Board, On};
 ghost use Rattle.frontier.specs.Frontier.{insideCells, knownMines};
 
 // Does the cell touch no open one?
-fn touches_no_open(edgeless: bool, rows: usize, columns: usize, position: &[u8], row: usize, column: usize) -> bool
+fn touches_no_open(
+    edgeless: bool,
+    rows: usize,
+    columns: usize,
+    position: &[u8],
+    row: usize,
+    column: usize,
+) -> bool
     requires { ⌜ Board (now position) rows columns ⌝ }
     requires { ⌜ On rows columns row column ⌝ }
     ensures { λ r. ⌜ r ≡ not (any (λ d. leb (shows (now (position .entry)) d) 8) (neighbours edgeless rows columns (row * columns + column))) ⌝ }

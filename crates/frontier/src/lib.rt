@@ -27,7 +27,12 @@ pub struct FrontierAnswer {
 }
 
 // The frontier of a position; no blocks where the position is refused.
-pub fn refresh_matrixs(edgeless: bool, rows: usize, columns: usize, position: &[u8]) -> FrontierAnswer
+pub fn refresh_matrixs(
+    edgeless: bool,
+    rows: usize,
+    columns: usize,
+    position: &[u8],
+) -> FrontierAnswer
     ensures { λ r. ⌜ r ≡ refreshMatrixs edgeless rows columns (now (position .entry)) ⌝ }
 {
     let tested = test_position(rows, columns, position);

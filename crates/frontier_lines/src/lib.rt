@@ -1,6 +1,6 @@
 // The answer of refresh_matrixs to a line of numbers: `inside 1 mines 0 blocks 1 [1 | 1=1]`, or a refusal.
-use grid::window::FLAT;
 use frontier::refresh_matrixs;
+use grid::window::FLAT;
 use lines::read_line;
 use refusals::Tested;
 use show::put_blocks;

@@ -83,7 +83,13 @@ pub fn cell_number(rows: usize, columns: usize, row: usize, column: usize) -> us
 }
 
 // The neighbours of a cell, from the row above to the row below and from left to right.
-pub fn neighbours_of(edgeless: bool, rows: usize, columns: usize, row: usize, column: usize) -> Neighbours
+pub fn neighbours_of(
+    edgeless: bool,
+    rows: usize,
+    columns: usize,
+    row: usize,
+    column: usize,
+) -> Neighbours
     requires { ⌜ Sized rows columns ⌝ }
     requires { ⌜ On rows columns row column ⌝ }
     ensures { λ r. ⌜ r ≡ listed (neighbours edgeless rows columns (row * columns + column)) ⌝ }

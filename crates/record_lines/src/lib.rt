@@ -93,7 +93,15 @@ pub fn board_verdict(
     let size = picture_size(rows, columns);
     let mut picture = zeros();
     match mark {
-        BoardMark::Plain => is_solvable(FLAT, rows, columns, row, column, cells, &mut picture[..size]),
+        BoardMark::Plain => is_solvable(
+            FLAT,
+            rows,
+            columns,
+            row,
+            column,
+            cells,
+            &mut picture[..size],
+        ),
         BoardMark::Unknown => Verdict::Refused(Refusal::Mark),
     }
 }

@@ -148,7 +148,17 @@ pub fn numbers_ok(edgeless: bool, rows: usize, columns: usize, cells: &[u8]) -> 
     for c in 0..n {
         let v = cells[c];
         if v != 255 {
-            if count_beside(edgeless, rows, columns, cells, c / columns, c % columns, 255) != wide_byte(v) {
+            if count_beside(
+                edgeless,
+                rows,
+                columns,
+                cells,
+                c / columns,
+                c % columns,
+                255,
+            )
+                != wide_byte(v)
+            {
                 return false;
             }
         }

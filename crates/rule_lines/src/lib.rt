@@ -1,10 +1,10 @@
 // The answers of the calls that deduce to a line of numbers: `refused 6`, or the two lists, the position with its marks, and the blocks left where the rule
 // hands them out.
-use grid::window::FLAT;
 use blocks::BlockSet;
 use deductions::Rule;
 use deductions::answer::DeductionAnswer;
 use deductions::deduce;
+use grid::window::FLAT;
 use lines::read_line;
 use refusals::Tested;
 use show::put_blocks;

@@ -35,7 +35,15 @@ pub fn rest_of(edgeless: bool, rows: usize, columns: usize, position: &[u8], c: 
     requires { ⌜ (c < rows * columns) × (shows (now position) c ≤ 8) ⌝ }
     ensures { λ r. ⌜ r ≡ restAt (neighbours edgeless rows columns) (now (position .entry)) c ⌝ }
 {
-    let known = count_beside(edgeless, rows, columns, position, c / columns, c % columns, 11);
+    let known = count_beside(
+        edgeless,
+        rows,
+        columns,
+        position,
+        c / columns,
+        c % columns,
+        11,
+    );
     less_known(position[c], known as u8)
 }
 

@@ -47,7 +47,17 @@ fn read_row(
 {
     let mut len = before;
     for column in 0..columns {
-        len = read_cell(edgeless, rows, columns, position, row, column, beside, sources, len);
+        len = read_cell(
+            edgeless,
+            rows,
+            columns,
+            position,
+            row,
+            column,
+            beside,
+            sources,
+            len,
+        );
     }
     len
 }

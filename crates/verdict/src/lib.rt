@@ -80,7 +80,14 @@ fn judge_from(
 }
 
 // The same, with positions of its own.
-fn judge(edgeless: bool, rows: usize, columns: usize, cells: &[u8], start: usize, picture: &mut [u8]) -> Verdict
+fn judge(
+    edgeless: bool,
+    rows: usize,
+    columns: usize,
+    cells: &[u8],
+    start: usize,
+    picture: &mut [u8],
+) -> Verdict
     requires { ⌜ Board (now cells) rows columns × Board (now picture) rows columns ⌝ }
     requires { ⌜ Accepted (neighbours edgeless rows columns) (now cells) ⌝ }
     requires { ⌜ start < length (now cells) ⌝ }
@@ -117,7 +124,15 @@ pub fn is_solvable(
         → MeetsDemand3 (neighbours edgeless rows columns) (now (cells .entry)) (startCell columns «start_row» «start_column» (now (cells .entry))) r (now (picture .exit))) ⌝ }
 {
     let lent = [picture.len()];
-    match test_board(edgeless, rows, columns, start_row, start_column, cells, &lent) {
+    match test_board(
+        edgeless,
+        rows,
+        columns,
+        start_row,
+        start_column,
+        cells,
+        &lent,
+    ) {
         Tested::Refused(refusal) => Verdict::Refused(refusal),
         Tested::Accepted => {
             let start = start_cell(rows, columns, start_row, start_column, cells);

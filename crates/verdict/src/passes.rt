@@ -94,7 +94,15 @@ pub fn run_passes(
             };
         }
         write_at_cells(&mines, found.mine_count, 11, position);
-        refresh_board(edgeless, rows, columns, board, position, &safe, found.safe_count);
+        refresh_board(
+            edgeless,
+            rows,
+            columns,
+            board,
+            position,
+            &safe,
+            found.safe_count,
+        );
         grade = greater(grade, found.grade);
         rounds += 1;
     }
