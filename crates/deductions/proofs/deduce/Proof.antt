@@ -12,7 +12,7 @@ use Rattle.refusals.specs.Tests.{deductionTested}
 use Rattle.refusals.proofs.Accepted.{AcceptedDeduction, accepted-deduction}
 use Rattle.frontier.proofs.ReadFrontier.{read-whole}
 use Rattle.rules.proofs.FrontierReady.{read-ready}
-use Rattle.groups.proofs.FrontierBlocks.{read-combinable}
+use Rattle.frontier.proofs.CombinableBlocks.{read-combinable}
 use Rattle.deductions.specs.Answers.{seen, deduction}
 use Rattle.deductions.specs.Calls.{SoundCall}
 use Rattle.deductions.specs.ByRule.{ruleOn, Completes, Refuses}

@@ -1,0 +1,135 @@
+/* Two builds of the library beside each other: the same random boards and positions through both in one process, in turns of fifty, and every answer and every
+ * lent byte compared on the way. Prints for each call the time of the first build, that of the second, and the ratio (above 1: the second is quicker) of the
+ * quickest round of each, then the least and the greatest ratio of a round. Run by bench/builds. */
+#define _POSIX_C_SOURCE 200809L
+#include <dlfcn.h>
+#include <stdint.h>
+#include <stdio.h>
+#include <stdlib.h>
+#include <string.h>
+#include <time.h>
+
+enum { CELLS = 1024, TABLE = 16384, TURN = 50, ROUNDS = 7, CALLS = 7 };
+
+typedef uint8_t Verdict(size_t, size_t, size_t, size_t, const uint8_t *, size_t, uint8_t *, size_t, uint64_t *, size_t);
+typedef uint8_t Look(size_t, size_t, const uint8_t *, size_t, uint64_t *, size_t);
+typedef uint8_t Rule(size_t, size_t, uint8_t *, size_t, uint16_t *, size_t, uint16_t *, size_t, uint64_t *, size_t);
+typedef uint8_t Table(size_t, size_t, const uint8_t *, size_t, size_t, uint8_t *, size_t, uint64_t *, size_t);
+
+static const char *const NAMES[CALLS] = {"verdict", "pattern", "frontier", "direct", "minus", "enumerate", "table"};
+
+/* A board with its start, and a position of it: what its verdict shows, some open cells closed again. */
+typedef struct {
+  size_t rows, columns, start;
+  uint8_t cells[CELLS], position[CELLS];
+} Input;
+
+/* All that a call writes. */
+typedef struct {
+  uint8_t number, bytes[TABLE];
+  uint16_t safe[CELLS], mines[CELLS];
+  uint64_t counts[4];
+} Answer;
+
+static void *call_of(void *build, int call) {
+  char name[64];
+  snprintf(name, sizeof name, "lihvompa_%s", NAMES[call]);
+  void *found = dlsym(build, name);
+  if (!found) { fprintf(stderr, "builds: no %s\n", name); exit(2); }
+  return found;
+}
+
+static void ask(void *function, int call, const Input *in, Answer *out) {
+  size_t n = in->rows * in->columns;
+  memset(out->counts, 0, sizeof out->counts);
+  memcpy(out->bytes, in->position, n);
+  switch (call) {
+    case 0: out->number = ((Verdict *)function)(in->rows, in->columns, in->start / in->columns, in->start % in->columns, in->cells, n, out->bytes, n, out->counts, 4); break;
+    case 1: out->number = ((Look *)function)(in->rows, in->columns, in->cells, n, out->counts, 4); break;
+    case 2: out->number = ((Look *)function)(in->rows, in->columns, in->position, n, out->counts, 4); break;
+    case 6: out->number = ((Table *)function)(in->rows, in->columns, in->position, n, 0, out->bytes, TABLE, out->counts, 4); break;
+    default: out->number = ((Rule *)function)(in->rows, in->columns, out->bytes, n, out->safe, CELLS, out->mines, CELLS, out->counts, 4);
+  }
+}
+
+static double now(void) {
+  struct timespec t;
+  clock_gettime(CLOCK_MONOTONIC, &t);
+  return t.tv_sec + t.tv_nsec * 1e-9;
+}
+
+static int mine_at(const Input *in, long row, long column) {
+  if (row < 0 || column < 0 || row >= (long)in->rows || column >= (long)in->columns) return 0;
+  return in->cells[row * in->columns + column] == 255;
+}
+
+/* A random board with so many mines, its start the first 0 or else the first safe cell; and its position, by the first build's verdict. */
+static void draw(Input *in, size_t rows, size_t columns, size_t mines, Verdict *verdict) {
+  size_t n = rows * columns;
+  memset(in, 0, sizeof *in);
+  in->rows = rows;
+  in->columns = columns;
+  while (mines > 0) {
+    size_t c = rand() % n;
+    if (in->cells[c] != 255) { in->cells[c] = 255; mines--; }
+  }
+  for (size_t c = n; c-- > 0;) {
+    if (in->cells[c] == 255) continue;
+    for (long i = -1; i < 2; i++)
+      for (long j = -1; j < 2; j++) in->cells[c] += mine_at(in, (long)(c / columns) + i, (long)(c % columns) + j);
+  }
+  for (size_t c = n; c-- > 0;)
+    if (in->cells[c] == 0 || (in->cells[c] != 255 && in->cells[in->start] != 0)) in->start = c;
+  uint64_t counts[4];
+  verdict(rows, columns, in->start / columns, in->start % columns, in->cells, n, in->position, n, counts, 4);
+  for (size_t c = 0; c < n; c++)
+    if (in->position[c] < 9 && rand() % 12 == 0) in->position[c] = 10;
+}
+
+static int measure(void *builds[2], int call, const Input *inputs, int count) {
+  static Answer answers[2];
+  double quickest[2] = {1e9, 1e9}, least = 1e9, greatest = 0;
+  for (int round = 0; round < ROUNDS; round++) {
+    double taken[2] = {0, 0};
+    for (int from = 0; from < count; from += TURN)
+      for (int k = 0; k < 2; k++) {
+        int side = (k + from / TURN + round) % 2;
+        void *function = call_of(builds[side], call);
+        double begin = now();
+        for (int i = from; i < from + TURN && i < count; i++) ask(function, call, &inputs[i], &answers[side]);
+        taken[side] += now() - begin;
+      }
+    double ratio = taken[0] / taken[1];
+    for (int side = 0; side < 2; side++) if (taken[side] < quickest[side]) quickest[side] = taken[side];
+    if (ratio < least) least = ratio;
+    if (ratio > greatest) greatest = ratio;
+  }
+  int differ = 0;
+  for (int i = 0; i < count; i++) {
+    memset(answers, 0, sizeof answers);
+    for (int side = 0; side < 2; side++) ask(call_of(builds[side], call), call, &inputs[i], &answers[side]);
+    differ += memcmp(&answers[0], &answers[1], sizeof answers[0]) != 0;
+  }
+  printf("  %-10s %9.2f %9.2f   %.3f   %.3f to %.3f   %d differ\n", NAMES[call], quickest[0] * 1e6 / count, quickest[1] * 1e6 / count,
+         quickest[0] / quickest[1], least, greatest, differ);
+  return differ;
+}
+
+int main(int argc, char **argv) {
+  if (argc != 3) { fprintf(stderr, "usage: builds BEFORE.so AFTER.so\n"); return 2; }
+  void *builds[2];
+  for (int side = 0; side < 2; side++)
+    if (!(builds[side] = dlopen(argv[side + 1], RTLD_NOW | RTLD_LOCAL))) { fprintf(stderr, "builds: %s\n", dlerror()); return 2; }
+  static const size_t sets[][4] = {{16, 30, 99, 1500}, {16, 16, 40, 3000}, {8, 8, 10, 10000}, {32, 32, 200, 600}};
+  int differ = 0;
+  srand(20);
+  for (size_t k = 0; k < sizeof sets / sizeof sets[0]; k++) {
+    int count = (int)sets[k][3];
+    Input *inputs = malloc(count * sizeof *inputs);
+    for (int i = 0; i < count; i++) draw(&inputs[i], sets[k][0], sets[k][1], sets[k][2], (Verdict *)call_of(builds[0], 0));
+    printf("%d of %zu x %zu with %zu mines: call, us before, us after, ratio, ratios of the rounds\n", count, sets[k][0], sets[k][1], sets[k][2]);
+    for (int call = 0; call < CALLS; call++) differ += measure(builds, call, inputs, count);
+    free(inputs);
+  }
+  return differ != 0;
+}
