@@ -10,7 +10,7 @@ use lib.ListN.{length, getD, take, drop, length-take}
 use Rattle.lists.specs.Lists.{any, all}
 use Rattle.lists.proofs.Members.{range-more, range-none}
 use Rattle.grid.specs.Window.{listed}
-use Rattle.grid.specs.declared.window.Neighbours.{Neighbours}
+use Rattle.grid.specs.declared.window.UpToEight.{UpToEight}
 use Rattle.blocks.specs.Blocks.{BlockEquation}
 use Rattle.blocks.specs.BlockSets.{before, slotCells, beginAt}
 use Rattle.blocks.specs.Places.{marked, OnBoard, Slots, cellsFrom, equationsFrom}
@@ -55,7 +55,7 @@ pub slots-eight : (slots : List ℕ) (e : ℕ) → length (slotCells slots e) �
 unfolding slotCells
 slots-eight slots e = omega (arith, before-few 65535 (take 8 (drop (e * 8) slots)), length-take 8 (drop (e * 8) slots))
 
-module _ (near : Neighbours) (slots : List ℕ) (e : ℕ) (is : near ≡ listed (slotCells slots e)) where
+module _ (near : UpToEight) (slots : List ℕ) (e : ℕ) (is : near ≡ listed (slotCells slots e)) where
   pub listed-cells : take (near .len) (near .cells) ≡ slotCells slots e
   listed-cells = cells-listed (slotCells slots e) is
 

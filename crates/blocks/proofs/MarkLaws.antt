@@ -16,7 +16,7 @@ use Rattle.lists.proofs.Members.{has-append}
 use Rattle.lists.proofs.Occurrences.{any-agree}
 use Rattle.lists.proofs.Counted.{counted-more, counted-passes}
 use Rattle.lists.proofs.Elements.{replicate-all}
-use Rattle.grid.specs.declared.window.Neighbours.{Neighbours}
+use Rattle.grid.specs.declared.window.UpToEight.{UpToEight}
 use Rattle.blocks.specs.Places.{marked, Marks, OnBoard}
 
 -- ---- a mark read
@@ -61,7 +61,7 @@ marked-set marks c d u = go (decided (eqb d c))
 
 -- ---- the next cell of a list
 
-module _ (list : Neighbours) (on : OnBoard list) (whole : length (list .cells) ≡ 8) (k x : ℕ) (before : k < list .len) (at : x ≡ getD (list .cells) k 0) where
+module _ (list : UpToEight) (on : OnBoard list) (whole : length (list .cells) ≡ 8) (k x : ℕ) (before : k < list .len) (at : x ≡ getD (list .cells) k 0) where
   pub list-next : drop k (take (list .len) (list .cells)) ≡ x ∷ drop (k + 1) (take (list .len) (list .cells))
   list-next = rw at (counted-more (list .cells) (list .len) k 0 before (omega (arith, on .few)))
 

@@ -7,7 +7,7 @@ use Prim.Native.Nat.{ℕ, _-_, _≤_, _<_}
 use lib.Dec.{eqb, ltb}
 use lib.ListN.{length, getD, take}
 use Rattle.lists.specs.Lists.{range, bit, all, has}
-use Rattle.grid.specs.declared.window.Neighbours.{Neighbours}
+use Rattle.grid.specs.declared.window.UpToEight.{UpToEight}
 use Rattle.blocks.specs.Blocks.{BlockEquation, Block}
 use Rattle.blocks.specs.BlockSets.{slotCells, beginAt, blocksOf, Small, Whole}
 use Rattle.blocks.specs.declared.BlockSet.{BlockSet}
@@ -25,11 +25,11 @@ pub record Marks (marks cells : List ℕ) : Type 0 where
 -- ---- a block in the arrays
 
 -- the cells that a list of at most eight holds
-abbrev pub cellsIn : Neighbours → List ℕ
+abbrev pub cellsIn : UpToEight → List ℕ
 cellsIn l = take (l .len) (l .cells)
 
 -- such a list, each of its cells a place of the marks
-pub record OnBoard (list : Neighbours) : Type 0 where
+pub record OnBoard (list : UpToEight) : Type 0 where
   pub few : list .len ≤ 8
   pub below : all (λ c. ltb c 1024) (cellsIn list) ≡ true
 

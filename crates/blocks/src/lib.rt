@@ -1,6 +1,6 @@
 // The block set: blocks of equations in one struct of flat arrays, passed by value through the rules. Inside a rule its arrays are lent to the
 // functions that loop. specs/BlockSets.antt says what the arrays hold.
-use grid::window::Neighbours;
+use grid::window::UpToEight;
 use grid::window::wide;
 ghost use mathlib.Core.Path.{_≡_};
 ghost use mathlib.Core.List.{[]};
@@ -45,7 +45,7 @@ pub fn empty_set() -> BlockSet
 }
 
 // Writes a list of at most eight cells into the eight slots at place e.
-pub fn put_slots(slots: &mut [u16; 8192], e: usize, list: Neighbours)
+pub fn put_slots(slots: &mut [u16; 8192], e: usize, list: UpToEight)
     requires { ⌜ (length (now slots) ≡ 8192) × (e < 1024) × (list .len ≤ 8) ⌝ }
     ensures { λ _. ⌜ now (slots .exit) ≡ sets (now (slots .entry)) (e * 8) (pad 8 65535 (take (list .len) (list .cells))) ⌝ }
 {
@@ -62,7 +62,7 @@ pub fn put_slots(slots: &mut [u16; 8192], e: usize, list: Neighbours)
 }
 
 // The cells in the eight slots at place e.
-pub fn slots_at(slots: &[u16; 8192], e: usize) -> Neighbours
+pub fn slots_at(slots: &[u16; 8192], e: usize) -> UpToEight
     requires { ⌜ (length (now slots) ≡ 8192) × (e < 1024) ⌝ }
     ensures { λ r. ⌜ r ≡ listed (slotCells (now (slots .entry)) e) ⌝ }
 {
@@ -77,7 +77,7 @@ pub fn slots_at(slots: &[u16; 8192], e: usize) -> Neighbours
         cells[len] = c;
         len += 1;
     }
-    Neighbours { cells, len }
+    UpToEight { cells, len }
 }
 
 // Where a block's cells and equations begin and end.
@@ -110,7 +110,7 @@ pub fn bounds_at(cell_ends: &[u16; 1024], equation_ends: &[u16; 1024], b: usize)
 }
 
 // 1 at each cell of a list, 0 elsewhere.
-pub fn marks_of(list: Neighbours) -> [u8; 1024]
+pub fn marks_of(list: UpToEight) -> [u8; 1024]
     requires { ⌜ OnBoard list ⌝ }
     ensures { λ r. ⌜ Marks r (cellsIn list) ⌝ }
 {
@@ -124,7 +124,7 @@ pub fn marks_of(list: Neighbours) -> [u8; 1024]
 }
 
 // Is a cell of the list marked?
-pub fn meets_marks(marks: &[u8; 1024], list: Neighbours) -> bool
+pub fn meets_marks(marks: &[u8; 1024], list: UpToEight) -> bool
     requires { ⌜ OnBoard list ⌝ }
     ensures { λ r. ⌜ r ≡ any (marked (now (marks .entry))) (cellsIn list) ⌝ }
 {

@@ -10,11 +10,11 @@ use Rattle.fitting.specs.Passes.{orElse, openCells, pass, allOpen, judge}
 use Rattle.sources.specs.Sources.{sources}
 use Rattle.frontier.specs.Frontier.{blockOf, frontier, insideCells, knownMines}
 use Rattle.chunks.specs.Chunks.{chunkMatrix, chunkMatrixes}
-use Rattle.rules.specs.Direct.{sureMines, sureSafe, directLeft, direct}
+use Rattle.direct.specs.Direct.{sureMines, sureSafe, directLeft, direct}
 use Rattle.subtraction.specs.Minus.{minusMines, minusSafe, minusLeft, subtraction}
 use Rattle.groups.specs.Groups.{firsts, groups, sizes, groupsIn}
 use Rattle.search.specs.Solutions.{weighed, solutions}
-use Rattle.solutions.specs.Enumeration.{safeCells, mineCells, enumerated}
+use Rattle.enumeration.specs.Enumeration.{safeCells, mineCells, enumerated}
 use Rattle.marks.specs.Written.{written}
 use Rattle.deductions.specs.Answers.{refusedAnswer, afterFound}
 use Rattle.tables.specs.Tables.{tableOf, blockAsked, calAllSolution}

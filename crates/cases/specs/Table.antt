@@ -11,10 +11,10 @@ use Rattle.refusals.specs.Refusals.{testedNumber}
 use Rattle.refusals.specs.Tests.{boardTested, positionTested}
 use Rattle.blocks.specs.Blocks.{BlockEquation, Block}
 use Rattle.frontier.specs.Frontier.{frontier, insideCells, knownMines}
-use Rattle.rules.specs.Found.{Found}
-use Rattle.rules.specs.Direct.{direct}
+use Rattle.direct.specs.Found.{Found}
+use Rattle.direct.specs.Direct.{direct}
 use Rattle.subtraction.specs.Minus.{subtraction}
-use Rattle.solutions.specs.Enumeration.{enumerated}
+use Rattle.enumeration.specs.Enumeration.{enumerated}
 use Rattle.deductions.specs.Answers.{Seen, deduction}
 use Rattle.tables.specs.Tables.{tableNumber, tableValues, TableSeen, calAllSolution}
 use Rattle.verdict.specs.Verdict.{verdictNumber, verdictValues, VerdictSeen, isSolvable}

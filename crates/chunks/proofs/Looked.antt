@@ -8,7 +8,7 @@ use lib.ListN.{length, take, length-reverse}
 use Rattle.lists.specs.Lists.{any, addNew, pad}
 use Rattle.lists.proofs.Arrays.{pad-take, length-pad}
 use Rattle.grid.specs.Window.{listed}
-use Rattle.grid.specs.declared.window.Neighbours.{Neighbours}
+use Rattle.grid.specs.declared.window.UpToEight.{UpToEight}
 use Rattle.blocks.specs.Blocks.{BlockEquation}
 use Rattle.blocks.specs.BlockSets.{slotCells}
 use Rattle.blocks.specs.Places.{marked, Marks, equationsFrom}
@@ -19,9 +19,9 @@ use Rattle.chunks.specs.Chunks.{widened}
 pub slots-turned : (slots : List ℕ) (e : ℕ) → length (pad 8 65535 (reverse (slotCells slots e))) ≡ 8
 slots-turned slots e = length-pad 8 65535 (reverse (slotCells slots e)) (omega (arith, length-reverse (slotCells slots e), slots-eight slots e))
 
-module _ (near : Neighbours) (slots : List ℕ) (e : ℕ) (is : near ≡ listed (slotCells slots e)) where
+module _ (near : UpToEight) (slots : List ℕ) (e : ℕ) (is : near ≡ listed (slotCells slots e)) where
   -- turned round, as the code lists it
-  module _ (back : Neighbours) (is-back : back ≡ listed (reverse (take (near .len) (near .cells)))) where
+  module _ (back : UpToEight) (is-back : back ≡ listed (reverse (take (near .len) (near .cells)))) where
     pub back-few : back .len ≤ 8
     back-few = rw (is-back, (listed-cells near slots e is)) (omega (arith, length-reverse (slotCells slots e), slots-eight slots e))
 

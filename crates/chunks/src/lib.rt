@@ -8,7 +8,7 @@ use blocks::empty_set;
 use blocks::meets_marks;
 use blocks::put_slots;
 use blocks::slots_at;
-use grid::window::Neighbours;
+use grid::window::UpToEight;
 use grid::window::wide;
 ghost use mathlib.Core.Path.{_≡_};
 ghost use mathlib.Core.Bool.{_&&_, _||_};
@@ -25,7 +25,7 @@ ghost use Rattle.chunks.specs.Chunks.{widened, connected, alone, chunkMa
 ghost use Rattle.chunks.specs.Splitting.{Changed, markedCells, markedPlaces, markedPart, allParts, bare};
 
 // Marks the cells of a list; was one not marked before?
-fn mark_all(marks: &mut [u8; 1024], list: Neighbours) -> bool
+fn mark_all(marks: &mut [u8; 1024], list: UpToEight) -> bool
     requires { ⌜ length (now marks) ≡ 1024 ⌝ }
     requires { ⌜ OnBoard list ⌝ }
     ensures { λ r. ⌜ Changed (λ (l : List ℕ). addNew l (take (list .len) (list .cells))) (now (marks .entry)) (now (marks .exit)) r ⌝ }
@@ -106,7 +106,7 @@ fn put_cells(
 }
 
 // A list turned round.
-fn reversed(list: Neighbours) -> Neighbours
+fn reversed(list: UpToEight) -> UpToEight
     requires { ⌜ list .len ≤ 8 ⌝ }
     ensures { λ r. ⌜ r ≡ listed (reverse (take (list .len) (list .cells))) ⌝ }
 {
@@ -116,7 +116,7 @@ fn reversed(list: Neighbours) -> Neighbours
     for k in 0..len {
         turned[k] = cells[len - 1 - k];
     }
-    Neighbours { cells: turned, len }
+    UpToEight { cells: turned, len }
 }
 
 // The equations of a block that have a marked cell, from the last to the first, turned round, go to `out` from place `at` on.

@@ -1,6 +1,6 @@
 -- Refusal 6 of the calls, from what they ensure alone: tests 1 to 3 never give it, so solve_direct refuses with it exactly where these pass and an open cell
 -- with a closed neighbour shows fewer than the mines known and found beside it, and solve_enumerate exactly where these pass and no mines on the closed
--- cells give each such cell its number; solve_minus only there. Rests on FromPosition of the crate rules, on NoSolution of the crate solutions, and on the
+-- cells give each such cell its number; solve_minus only there. Rests on FromPosition of the crate direct, on NoSolution of the crate enumeration, and on the
 -- laws that the two first rules meet no contradiction where something solves the equations. Assumes nothing.
 use mathlib.Core.Path.{_≡_, refl, sym, ap, _∙_}
 use mathlib.Core.Logic.{inl, inr, _↔_}
@@ -33,15 +33,15 @@ use Rattle.sources.specs.Equations.{knownBeside}
 use Rattle.frontier.specs.Frontier.{frontier}
 use Rattle.frontier.proofs.BlockLaws.{frontier-proper}
 use Rattle.frontier.proofs.Fitting.{sources-solve}
-use Rattle.rules.specs.Found.{Found}
-use Rattle.rules.specs.Direct.{direct}
-use Rattle.rules.specs.AtPosition.{isContradictoryAt}
-use Rattle.rules.proofs.DirectLaws.{direct-no-contradiction}
-use Rattle.rules.proofs.FromPosition.{direct-contradiction-at}
+use Rattle.direct.specs.Found.{Found}
+use Rattle.direct.specs.Direct.{direct}
+use Rattle.direct.specs.AtPosition.{isContradictoryAt}
+use Rattle.direct.proofs.DirectLaws.{direct-no-contradiction}
+use Rattle.direct.proofs.FromPosition.{direct-contradiction-at}
 use Rattle.subtraction.specs.Minus.{subtraction}
 use Rattle.subtraction.proofs.MinusLaws.{subtraction-no-contradiction}
-use Rattle.solutions.specs.Enumeration.{enumerated}
-use Rattle.solutions.proofs.NoSolution.{enumeration-contradiction-at}
+use Rattle.enumeration.specs.Enumeration.{enumerated}
+use Rattle.enumeration.proofs.NoSolution.{enumeration-contradiction-at}
 use Rattle.deductions.specs.Answers.{Seen, seen, refusedAnswer, afterTests, deduction}
 use Rattle.deductions.specs.Contradictions.{Placing, NoPlacing, TestsPass}
 use Rattle.deductions.specs.ByRule.{ruleOn, Refuses}

@@ -8,21 +8,22 @@ use Prim.Native.Nat.{ℕ, _*_, _≤_}
 use native.Mathlib.Omega.{arith}
 use lib.ListN.{length}
 use Rattle.grid.specs.Window.{neighbours}
+use Rattle.grid.proofs.Places.{few-cells}
 use Rattle.grid.proofs.Neighbours.{neighbours-nodup, neighbours-few}
 use Rattle.refusals.specs.declared.Refusal.{Refusal}
 use Rattle.refusals.specs.declared.Tested.the-variants.{Accepted, Refused}
 use Rattle.refusals.specs.Tests.{deductionTested}
-use Rattle.refusals.proofs.Accepted.{few-cells, AcceptedDeduction, accepted-deduction}
+use Rattle.refusals.proofs.Accepted.{AcceptedDeduction, accepted-deduction}
 use Rattle.blocks.specs.Blocks.{Block}
 use Rattle.blocks.specs.BlockSets.{blockSet, blocksOf, Whole}
 use Rattle.blocks.specs.declared.BlockSet.{BlockSet}
 use Rattle.frontier.specs.Frontier.{frontier}
 use Rattle.frontier.proofs.ReadFrontier.{read-frontier}
-use Rattle.rules.specs.Answers.{ruleAnswer, foundIn}
-use Rattle.rules.specs.declared.answer.RuleAnswer.{RuleAnswer}
-use Rattle.rules.proofs.Soundness.{SoundAt, listed-few, direct-sound-at, listed-below}
+use Rattle.direct.specs.Answers.{ruleAnswer, foundIn}
+use Rattle.direct.specs.declared.answer.RuleAnswer.{RuleAnswer}
+use Rattle.direct.proofs.Soundness.{SoundAt, listed-few, direct-sound-at, listed-below}
 use Rattle.subtraction.proofs.Soundness.{subtraction-sound-at}
-use Rattle.solutions.proofs.Completeness.{enumeration-sound-at}
+use Rattle.enumeration.proofs.Completeness.{enumeration-sound-at}
 use Rattle.deductions.specs.Answers.{Held, seen, refusedAnswer, afterFound, deduction}
 use Rattle.deductions.specs.ByRule.{ruleOn}
 use Rattle.deductions.specs.declared.Rule.{Rule}
@@ -60,7 +61,7 @@ module _ (rule : Rule) (edgeless : Bool) (rows columns : ℕ) (p s m : List ℕ)
 
     -- it answers as on the frontier
     answered : r ≡ ruleAnswer (ruleOn rule (frontier (neighbours edgeless rows columns) p))
-    answered = is ∙ ap (λ (bs : List Block). ruleAnswer (ruleOn rule bs)) (read-frontier edgeless rows columns p (accepted .position) set read)
+    answered = is ∙ ap (λ (bs : List Block). ruleAnswer (ruleOn rule bs)) (read-frontier edgeless rows columns p (accepted .position .board) set read)
 
     -- its answer can be handed to the caller
     pub rule-held : Held r (length p) (length s) (length m)

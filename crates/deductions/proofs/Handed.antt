@@ -21,9 +21,9 @@ use Rattle.blocks.specs.declared.BlockSet.{BlockSet}
 use Rattle.blocks.proofs.Reading.{blocks-of-set}
 use Rattle.marks.specs.Written.{written}
 use Rattle.marks.proofs.WrittenCells.{written-none}
-use Rattle.rules.specs.Found.{Found, contradicted}
-use Rattle.rules.specs.Answers.{ruleAnswer, foundIn}
-use Rattle.rules.specs.declared.answer.RuleAnswer.{RuleAnswer}
+use Rattle.direct.specs.Found.{Found, contradicted}
+use Rattle.direct.specs.Answers.{ruleAnswer, foundIn}
+use Rattle.direct.specs.declared.answer.RuleAnswer.{RuleAnswer}
 use Rattle.deductions.specs.Answers.{Held, Seen, seen, toldBy, refusedAnswer, refused, afterFound}
 use Rattle.deductions.specs.declared.answer.DeductionAnswer.{DeductionAnswer}
 

@@ -22,11 +22,11 @@ use Rattle.blocks.specs.BlockSets.{Small}
 use Rattle.blocks.proofs.Behind.{set-whole, none-fits}
 use Rattle.frontier.specs.Frontier.{frontier}
 use Rattle.frontier.proofs.ReadFrontier.{frontier-fits}
-use Rattle.rules.specs.Found.{Found, contradicted, found}
-use Rattle.rules.proofs.Soundness.{listed-few}
-use Rattle.rules.proofs.LeftFits.{direct-left-fits}
+use Rattle.direct.specs.Found.{Found, contradicted, found}
+use Rattle.direct.proofs.Soundness.{listed-few}
+use Rattle.direct.proofs.LeftFits.{direct-left-fits}
 use Rattle.subtraction.proofs.LeftFits.{subtraction-left-fits}
-use Rattle.solutions.specs.Enumeration.{safeCells, mineCells, unsolvable, enumerated}
+use Rattle.enumeration.specs.Enumeration.{safeCells, mineCells, unsolvable, enumerated}
 use Rattle.deductions.specs.Answers.{refusedAnswer, refused, afterFound, afterTests, deduction}
 use Rattle.deductions.specs.ByRule.{ruleOn, Readable}
 use Rattle.deductions.specs.declared.Rule.{Rule}
@@ -92,7 +92,7 @@ module _ (rule : Rule) (edgeless : Bool) (rows columns : ℕ) (p s m : List ℕ)
           let mines = listed-few near p (finds .mines) (listed .mines-among) in
           found-readable finds p s m
           (omega (arith, a .position .board .whole, a .safe-room)) (omega (arith, a .position .board .whole, a .mines-room))
-          (left-fits rule (frontier near p) (frontier-fits edgeless rows columns p (a .position)))
+          (left-fits rule (frontier near p) (frontier-fits edgeless rows columns p (a .position .board)))
 
       go : (t : Tested) → deductionTested rows columns p (length s) (length m) ≡ t → Readable (afterTests t finds p s m)
       go Accepted e = accepted-readable (accepted-deduction rows columns p (length s) (length m) e)

@@ -1,6 +1,6 @@
 -- What specs/Calls.antt says of a call of any rule, from the equation that the call ensures. An accepted call hands on the lists of a rule that is sound at
 -- the position: they are what stands at the front of the slices, and of what is marked. A refused call keeps all. And solve_enumerate is complete, since
--- enumeration is. Rests on Deductions, Soundness of the crate rules, Completeness of the crate solutions and the laws of what is written. Assumes nothing.
+-- enumeration is. Rests on Deductions, Soundness of the crate direct, Completeness of the crate enumeration and the laws of what is written. Assumes nothing.
 use mathlib.Core.Path.{_≡_, refl, sym, ap, _∙_}
 use mathlib.Core.Logic.{inl, inr, _≢_}
 use mathlib.Core.Bool.{Bool, true, false}
@@ -32,9 +32,9 @@ use Rattle.blocks.specs.BlockSets.{allCells}
 use Rattle.frontier.specs.Frontier.{frontier}
 use Rattle.marks.specs.Written.{written}
 use Rattle.marks.proofs.WrittenCells.{written-length, written-shows, written-elsewhere}
-use Rattle.rules.specs.Found.{Found}
-use Rattle.rules.proofs.Soundness.{SoundAt, listed-closed, listed-once, listed-few, listed-apart}
-use Rattle.solutions.proofs.Completeness.{enumeration-complete-at}
+use Rattle.direct.specs.Found.{Found}
+use Rattle.direct.proofs.Soundness.{SoundAt, listed-closed, listed-once, listed-few, listed-apart}
+use Rattle.enumeration.proofs.Completeness.{enumeration-complete-at}
 use Rattle.deductions.specs.Answers.{Seen, seen, refusedAnswer, refused, afterTests, deduction}
 use Rattle.deductions.specs.Calls.{ListsTrue, OnlyMarked, AllKept, SoundCall, AmongFirst, CompleteCall}
 use Rattle.deductions.specs.ByRule.{ruleOn, Completes}

@@ -17,12 +17,12 @@ use Rattle.blocks.specs.Blocks.{Block}
 use Rattle.blocks.specs.BlockSets.{blockSet}
 use Rattle.frontier.specs.Frontier.{frontier}
 use Rattle.marks.specs.Written.{written}
-use Rattle.rules.specs.Found.{Found, contradicted}
-use Rattle.rules.specs.Direct.{direct}
-use Rattle.rules.specs.declared.answer.RuleAnswer.{RuleAnswer}
-use Rattle.rules.specs.Answers.{ruleAnswer, foundIn}
+use Rattle.direct.specs.Found.{Found, contradicted}
+use Rattle.direct.specs.Direct.{direct}
+use Rattle.direct.specs.declared.answer.RuleAnswer.{RuleAnswer}
+use Rattle.direct.specs.Answers.{ruleAnswer, foundIn}
 use Rattle.subtraction.specs.Minus.{subtraction}
-use Rattle.solutions.specs.Enumeration.{enumerated}
+use Rattle.enumeration.specs.Enumeration.{enumerated}
 use Rattle.deductions.specs.declared.answer.DeductionAnswer.{DeductionAnswer}
 
 -- a struct that holds lists of cells below n, which fit into slices of s and m entries, and blocks, and nothing else; a contradiction comes alone

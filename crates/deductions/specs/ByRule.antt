@@ -8,10 +8,10 @@ use Rattle.grid.specs.Window.{neighbours}
 use Rattle.fitting.specs.Layouts.{Fits}
 use Rattle.blocks.specs.Blocks.{Block}
 use Rattle.blocks.specs.BlockSets.{Whole}
-use Rattle.rules.specs.Found.{Found}
-use Rattle.rules.specs.Direct.{direct}
+use Rattle.direct.specs.Found.{Found}
+use Rattle.direct.specs.Direct.{direct}
 use Rattle.subtraction.specs.Minus.{subtraction}
-use Rattle.solutions.specs.Enumeration.{enumerated}
+use Rattle.enumeration.specs.Enumeration.{enumerated}
 use Rattle.deductions.specs.declared.Rule.{Rule}
 use Rattle.deductions.specs.declared.Rule.the-variants.{Direct, Minus, Enumerate}
 use Rattle.deductions.specs.Answers.{Seen}

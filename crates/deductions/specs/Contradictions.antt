@@ -1,6 +1,6 @@
 -- Refusal 6 of the calls in words of the position: no block, no group and no order (SPECIFICATION 8.3, 8.6). `near` gives the neighbours of a cell;
 -- p, s and m are the position and the lists as they were lent, and `number` is 0 or the refusal's number. What the direct rule finds at a position stands
--- in AtPosition of the crate rules. Of subtraction it is said only one way: a block that it empties is dropped, its remainders unread, so that blocks
+-- in AtPosition of the crate direct. Of subtraction it is said only one way: a block that it empties is dropped, its remainders unread, so that blocks
 -- would have to be named. Assumes nothing.
 use mathlib.Core.Path.{_≡_}
 use mathlib.Core.Logic.{_↔_}
@@ -13,7 +13,7 @@ use Rattle.grid.specs.Window.{neighbours}
 use Rattle.refusals.specs.declared.Tested.the-variants.{Accepted}
 use Rattle.refusals.specs.Tests.{deductionTested}
 use Rattle.sources.specs.Sources.{isSource}
-use Rattle.rules.specs.AtPosition.{minesWith, isContradictoryAt}
+use Rattle.direct.specs.AtPosition.{minesWith, isContradictoryAt}
 
 -- mines placed on the closed cells as f says give each open cell with a closed neighbour its number
 abbrev pub Placing : (ℕ → List ℕ) → List ℕ → (ℕ → Bool) → Type 0

@@ -2,14 +2,14 @@
 // 11 at each mine, written last. A contradiction writes nothing.
 use blocks::BlockSet;
 use blocks::empty_set;
+use direct::answer::RuleAnswer;
 use marks::listing::put_list;
 use marks::write_at_cells;
 use refusals::Refusal;
 use refusals::Tested;
-use rules::answer::RuleAnswer;
 ghost use mathlib.Core.Path.{_≡_};
 ghost use lib.ListN.{length};
-ghost use Rattle.rules.specs.Answers.{foundIn};
+ghost use Rattle.direct.specs.Answers.{foundIn};
 ghost use Rattle.deductions.specs.Answers.{refusedAnswer, toldBy, afterFound, Held, seen};
 
 // What a call that deduces answers: the tests' answer or the contradiction, how many cells the two lists have, and the blocks left.

@@ -15,7 +15,7 @@ use Rattle.lists.proofs.Arrays.{pad-take}
 use Rattle.lists.proofs.Collected.{keep-few}
 use Rattle.lists.proofs.Counts.{count-le}
 use Rattle.grid.specs.Cells.{cellOf}
-use Rattle.grid.specs.declared.window.Neighbours.{Neighbours}
+use Rattle.grid.specs.declared.window.UpToEight.{UpToEight}
 use Rattle.grid.specs.Window.{neighbours, listed, Board}
 use Rattle.grid.proofs.Neighbours.{neighbours-on, neighbours-few}
 use Rattle.fitting.specs.Boards.{Accepted}
@@ -40,7 +40,7 @@ module _ (edgeless : Bool) (rows columns : ℕ) (b : List ℕ) (board : Board b 
   }
 
   -- the closed neighbours of c, as the code holds them
-  module _ (c : ℕ) (l : c < length b) (q : List ℕ) (list : Neighbours)
+  module _ (c : ℕ) (l : c < length b) (q : List ℕ) (list : UpToEight)
       (is : list ≡ listed (keep (λ d. eqb (cellOf q d) 10) (neighbours edgeless rows columns (c / columns * columns + c % columns)))) where
     abbrev beside : List ℕ
     beside = keep (λ d. eqb (cellOf q d) 10) (neighbours edgeless rows columns c)

@@ -1,6 +1,6 @@
 // refresh_board: opens the cells of a list, and from each opened 0 its neighbours. A cell is opened as it is put on the stack, so that it stands there at
 // most once; the stack has the opened cells whose neighbours are still to be looked at.
-use grid::window::Neighbours;
+use grid::window::UpToEight;
 use grid::window::neighbours_showing;
 use grid::window::wide;
 ghost use mathlib.Core.Path.{_≡_};
@@ -40,7 +40,7 @@ fn open_cell(
 fn open_list(
     board: &[u8],
     position: &mut [u8],
-    list: Neighbours,
+    list: UpToEight,
     stack: &mut [u16; 1024],
     before: usize,
 ) -> usize

@@ -18,9 +18,9 @@ use Rattle.lists.proofs.Elements.{replicate-all}
 use Rattle.lists.proofs.Joined.{pad-sets}
 use Rattle.lists.proofs.Counted.{counted-more, counted-none}
 use Rattle.grid.specs.Cells.{shows}
+use Rattle.grid.proofs.Places.{few-cells}
 use Rattle.grid.specs.Window.{neighbours, Board}
 use Rattle.grid.proofs.Neighbours.{neighbours-nodup, neighbours-few}
-use Rattle.refusals.proofs.Accepted.{few-cells}
 use Rattle.blocks.specs.Blocks.{BlockEquation, Block}
 use Rattle.blocks.specs.declared.BlockSet.{BlockSet}
 use Rattle.blocks.specs.BlockSets.{allCells, allEquations, slotsOf, slotCells, Small, blockSet}

@@ -23,10 +23,9 @@ use Rattle.lists.proofs.Among.{among-length, among-nodup, nodup-among}
 use Rattle.lists.proofs.PlacesAndRanges.{count-places}
 use Rattle.lists.proofs.PartedLists.{member-among}
 use Rattle.grid.specs.Cells.{shows}
+use Rattle.grid.proofs.Places.{few-cells}
 use Rattle.grid.specs.Window.{neighbours, Board}
 use Rattle.grid.proofs.Neighbours.{neighbours-nodup, neighbours-few, neighbours-mutual}
-use Rattle.refusals.proofs.Sides.{few-cells}
-use Rattle.refusals.proofs.Accepted.{AcceptedPosition}
 use Rattle.fitting.specs.Equations.{isClosed}
 use Rattle.fitting.proofs.Layouts.{on-board}
 use Rattle.blocks.specs.Blocks.{BlockEquation, Block}
@@ -163,8 +162,7 @@ frontier-combinable edgeless rows columns p board =
     (λ c d l h. let on : d < rows * columns = omega (arith, board .whole) in neighbours-mutual edgeless rows columns d c on h)
     (omega (arith, board .whole, few-cells (board .sized)))
 
-module _ (edgeless : Bool) (rows columns : ℕ) (p : List ℕ) where
-  -- so can those that are read from an accepted position
-  pub read-combinable : AcceptedPosition rows columns p → (set : BlockSet) → set ≡ blockSet (frontier (neighbours edgeless rows columns) p)
-      → (b : Block) → List·Memᴰ b (blocksOf set) → Combinable b
-  read-combinable a set is = rw (read-frontier edgeless rows columns p a set is) (frontier-combinable edgeless rows columns p (a .board))
+-- so can those that the code reads
+pub read-combinable : (edgeless : Bool) (rows columns : ℕ) (p : List ℕ) → Board p rows columns → (set : BlockSet)
+    → set ≡ blockSet (frontier (neighbours edgeless rows columns) p) → (b : Block) → List·Memᴰ b (blocksOf set) → Combinable b
+read-combinable edgeless rows columns p board set is = rw (read-frontier edgeless rows columns p board set is) (frontier-combinable edgeless rows columns p board)

@@ -1,12 +1,12 @@
--- The frontier of an accepted position fits into a block set, and the set reads as it. Rests on Coverage and on the laws of the neighbours. Assumes nothing.
+-- The frontier of a position fits into a block set, and the set reads as it. Rests on Coverage and on the laws of the neighbours. Assumes nothing.
 use mathlib.Core.Path.{_≡_, ap, _∙_}
 use mathlib.Core.Bool.{Bool}
 use mathlib.Core.List.{List}
 use Prim.Native.Nat.{ℕ}
 use native.Mathlib.Omega.{arith}
-use Rattle.grid.specs.Window.{neighbours}
+use Rattle.grid.specs.Window.{neighbours, Board}
+use Rattle.grid.proofs.Places.{few-cells}
 use Rattle.grid.proofs.Neighbours.{neighbours-nodup, neighbours-few}
-use Rattle.refusals.proofs.Accepted.{few-cells, AcceptedPosition}
 use Rattle.blocks.specs.BlockSets.{blockSet, blocksOf, Small, Whole}
 use Rattle.blocks.specs.declared.BlockSet.{BlockSet}
 use Rattle.blocks.proofs.Reading.{blocks-of-set}
@@ -14,12 +14,12 @@ use Rattle.blocks.proofs.Behind.{set-whole}
 use Rattle.frontier.specs.Frontier.{frontier}
 use Rattle.frontier.proofs.Coverage.{frontier-small}
 
-module _ (edgeless : Bool) (rows columns : ℕ) (p : List ℕ) (a : AcceptedPosition rows columns p) where
+module _ (edgeless : Bool) (rows columns : ℕ) (p : List ℕ) (board : Board p rows columns) where
   -- the frontier fits
   pub frontier-fits : Small (frontier (neighbours edgeless rows columns) p)
   frontier-fits =
       frontier-small (neighbours edgeless rows columns) p (neighbours-nodup edgeless rows columns) (λ c _. neighbours-few edgeless rows columns c)
-      (omega (arith, a .board .whole, few-cells (a .board .sized)))
+      (omega (arith, board .whole, few-cells (board .sized)))
 
   module _ (set : BlockSet) (is : set ≡ blockSet (frontier (neighbours edgeless rows columns) p)) where
     -- its block set holds it and nothing else

@@ -31,7 +31,7 @@ unfolding refreshMatrixs
 answer-whole rows columns p = go (positionTested rows columns p) refl
   where
     go : (t : Tested) → positionTested rows columns p ≡ t → Whole (answerAfter t flat rows columns p .blocks)
-    go Accepted e = set-whole (frontier (neighbours flat rows columns) p) _ refl (frontier-fits flat rows columns p (accepted-position rows columns p e))
+    go Accepted e = set-whole (frontier (neighbours flat rows columns) p) _ refl (frontier-fits flat rows columns p (accepted-position rows columns p e .board))
     go (Refused r) e = set-whole [] _ refl none-fits
 
 -- ---- the writes

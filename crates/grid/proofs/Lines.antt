@@ -1,12 +1,12 @@
 -- The ends of a window and a line folded back, case by case as the code finds them. Assumes nothing.
-use Prim.Native.Nat.{ℕ, _+_, _-_, _≤_, _<_, min}
-use mathlib.Core.Path.{_≡_, refl, sym}
+use Prim.Native.Nat.{ℕ, _+_, _-_, _≤_, _<_}
+use mathlib.Core.Path.{_≡_, refl}
 use mathlib.Core.Logic.{_≢_}
 use mathlib.Core.Bool.{Bool, true, false}
 use native.Mathlib.Omega.{arith}
-use lib.Dec.{leb, ltb, eqb}
+use lib.Dec.{eqb}
 use borrow.Author.Tests.{eq-eqb, ne-eqb, le-leb, lt-leb, lt-ltb, le-ltb}
-use Rattle.grid.specs.Window.{before, lowAt, highAt, folded}
+use Rattle.grid.specs.Window.{lowAt, highAt, folded}
 
 module _ (edgeless : Bool) (size i : ℕ) where
   pub low-other : i ≢ 0 → i - 1 ≡ lowAt edgeless size i

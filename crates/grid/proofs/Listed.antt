@@ -1,20 +1,19 @@
 -- A list of at most eight cells as the code holds it, `listed l`, read from its first slot on: before the count the slot has the next cell of the list,
 -- and from the count on nothing of the list is left. The laws `listed-..` are of any list, and `near-..` of a cell's neighbours, as `neighbours_of` gives
 -- them. Rests on the laws of `pad`. Assumes nothing.
-use Prim.Native.Nat.{ℕ, zero, suc, _+_, _*_, _≤_, _<_}
+use Prim.Native.Nat.{ℕ, _+_, _*_, _≤_, _<_}
 use mathlib.Core.Path.{_≡_, _∙_}
 use mathlib.Core.Bool.{Bool, true}
 use mathlib.Core.List.{List, [], _∷_}
-use native.Mathlib.Nat.{not-suc-le-zero, le-of-suc-le-suc}
 use lib.ListN.{length, getD, drop}
 use Rattle.lists.specs.Lists.{has}
 use Rattle.lists.proofs.Members.{getD-has}
 use Rattle.lists.proofs.Arrays.{pad-read, drop-more, drop-none}
-use Rattle.grid.specs.declared.window.Neighbours.{Neighbours}
+use Rattle.grid.specs.declared.window.UpToEight.{UpToEight}
 use Rattle.grid.specs.Window.{neighbours, listed, On}
 use Rattle.grid.proofs.Neighbours.{neighbours-on, neighbours-few}
 
-module _ (near : Neighbours) (l : List ℕ) (is : near ≡ listed l) where
+module _ (near : UpToEight) (l : List ℕ) (is : near ≡ listed l) where
   -- x is what the slot t has, before the count
   module _ (t x : ℕ) (before : t < near .len) (at : x ≡ getD (near .cells) t 0) where
     inside : t < length l
@@ -34,7 +33,7 @@ module _ (near : Neighbours) (l : List ℕ) (is : near ≡ listed l) where
 
 -- ---- the neighbours of a cell
 
-module _ (edgeless : Bool) (rows columns row column : ℕ) (near : Neighbours) (on : On rows columns row column) (is : near ≡ listed (neighbours edgeless rows columns (row * columns + column))) where
+module _ (edgeless : Bool) (rows columns row column : ℕ) (near : UpToEight) (on : On rows columns row column) (is : near ≡ listed (neighbours edgeless rows columns (row * columns + column))) where
   abbrev cells : List ℕ
   cells = neighbours edgeless rows columns (row * columns + column)
 

@@ -3,9 +3,9 @@
 -- in the one list and its column in the other. Rests on the laws of `has` and of rising lists. Assumes nothing.
 use mathlib.Core.Path.{_≡_, refl, sym, ap, _∙_}
 use mathlib.Core.Logic.{_⊎_, inl, inr, _≢_}
-use mathlib.Core.Bool.{Bool, true, false, not, cond, _&&_, _||_}
+use mathlib.Core.Bool.{Bool, true, false, not, _&&_, _||_}
 use mathlib.Core.List.{List, [], _∷_, map}
-use Prim.Native.Nat.{ℕ, zero, suc, _+_, _-_, _*_, _/_, _%_, _≤_, _<_, min}
+use Prim.Native.Nat.{ℕ, _+_, _-_, _*_, _/_, _%_, _≤_, _<_, min}
 use native.Mathlib.Omega.{arith}
 use native.Mathlib.Decide.{decLt}
 use native.Mathlib.Nat.{div-add-mod', div-lt-iff-lt-mul, mod-lt, mul-le-mul-left, mul-le-mul-right, suc-mul}
@@ -13,14 +13,14 @@ use lib.Arith.{digits-div, digits-mod, digits-lt}
 use lib.ListN.{length, length-append, length-map}
 use lib.Dec.{leb, ltb, eqb}
 use borrow.Author.Tests.{eqb-true, eqb-false, eq-eqb, ne-eqb, not-true, leb-true, ltb-true, le-leb, lt-ltb}
-use Rattle.lists.specs.Lists.{range, count, keep, has, nodup, without}
+use Rattle.lists.specs.Lists.{range, has, nodup, without}
 use Rattle.lists.proofs.Tests.{Decided, decided, clash, or-cases, or-right, same-test, and-left, and-right}
 use Rattle.lists.proofs.Collected.{keep-few}
 use Rattle.lists.proofs.Members.{has-head, has-tail, has-append, has-keep, kept-passes, kept-has, range-in, in-range, range-nodup, nodup-head, nodup-tail, nodup-keep, nodup-append}
 use Rattle.lists.proofs.Counts.{count-out}
 use Rattle.grid.specs.Window.{before, after, around, lowAt, highAt, block, neighbours, Sized, On}
 use Rattle.lists.proofs.Rearranged.{count-all, length-range}
-use Rattle.grid.proofs.Places.{some-column}
+use Rattle.grid.proofs.Places.{few-cells, some-column}
 
 -- ---- the rows, or the columns, around one of them
 
@@ -423,4 +423,4 @@ high-bound true size i on = go (decided (leb 3 size)) (decided (eqb i 0))
 pub cell-on : (rows columns row column : ℕ) → Sized rows columns → On rows columns row column
     → (row * columns + column < rows * columns) × (rows * columns ≤ 1024)
 cell-on rows columns row column sized on =
-    (digits-lt (on .in-rows) (on .in-columns), omega (arith, mul-le-mul-right columns (sized .few-rows), mul-le-mul-left 32 (sized .few-columns)))
+    (digits-lt (on .in-rows) (on .in-columns), few-cells sized)

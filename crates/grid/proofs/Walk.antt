@@ -2,14 +2,14 @@
 -- where the window wraps. What the walk has still to visit is a list of cells, and four laws say how it goes on: a row is entered, a cell is passed, a row is
 -- left, the walk is done. A walk around a cell that passes over the cell itself visits the cell's neighbours. Rests on the laws of ranges. Assumes nothing.
 use Prim.Native.Nat.{ℕ, zero, suc, _+_, _-_, _*_, _≤_, _<_, min}
-use mathlib.Core.Path.{_≡_, refl, sym}
+use mathlib.Core.Path.{_≡_, refl}
 use mathlib.Core.Logic.{inl, inr, _≢_}
 use mathlib.Core.Bool.{Bool, true, false}
 use mathlib.Core.List.{List, [], _∷_, _++_, map}
 use native.Mathlib.Omega.{arith}
 use lib.Arith.{digits-div, digits-mod}
-use lib.Dec.{leb, ltb, eqb}
-use borrow.Author.Tests.{eq-eqb, ne-eqb, eqb-true, eqb-false, leb-true, leb-false, le-leb, lt-leb, lt-ltb, le-ltb}
+use lib.Dec.{leb, eqb}
+use borrow.Author.Tests.{eq-eqb, ne-eqb, eqb-true, eqb-false, leb-true, lt-ltb, le-ltb}
 use Rattle.lists.specs.Lists.{range, without}
 use Rattle.lists.proofs.Tests.{Decided, decided}
 use Rattle.lists.proofs.Members.{range-more, range-none}

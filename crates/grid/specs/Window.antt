@@ -7,7 +7,7 @@ use Prim.Native.Nat.{ℕ, _+_, _-_, _*_, _/_, _%_, _≤_, _<_, min}
 use lib.Dec.{leb, ltb, eqb}
 use lib.ListN.{length}
 use Rattle.lists.specs.Lists.{range, without, pad}
-use Rattle.grid.specs.declared.window.Neighbours.{Neighbours}
+use Rattle.grid.specs.declared.window.UpToEight.{UpToEight}
 use Rattle.grid.specs.declared.window.Window.{Window}
 
 -- on a side whose first and last line touch: the line before a line and the line after it
@@ -54,7 +54,7 @@ windowAt edgeless rows columns row column =
     record { top = lowAt edgeless rows row; bottom = highAt edgeless rows row; left = lowAt edgeless columns column; right = highAt edgeless columns column }
 
 -- a list of at most eight cells as the code holds it
-abbrev pub listed : List ℕ → Neighbours
+abbrev pub listed : List ℕ → UpToEight
 listed l = record { cells = pad 8 0 l; len = length l }
 
 -- ---- what the window's functions are told, and what `window_of` tells

@@ -19,7 +19,7 @@ pub struct Window {
 }
 
 // At most eight cells: the first len slots, and 0 in the others.
-pub struct Neighbours {
+pub struct UpToEight {
     pub cells: [u16; 8],
     pub len: usize,
 }
@@ -89,7 +89,7 @@ pub fn neighbours_of(
     columns: usize,
     row: usize,
     column: usize,
-) -> Neighbours
+) -> UpToEight
     requires { ⌜ Sized rows columns ⌝ }
     requires { ⌜ On rows columns row column ⌝ }
     ensures { λ r. ⌜ r ≡ listed (neighbours edgeless rows columns (row * columns + column)) ⌝ }
@@ -112,7 +112,7 @@ pub fn neighbours_of(
             }
         }
     }
-    Neighbours { cells, len }
+    UpToEight { cells, len }
 }
 
 // Does a neighbour of the cell show `value`? The search stops at the first one found.
@@ -187,7 +187,7 @@ pub fn neighbours_showing(
     row: usize,
     column: usize,
     value: u8,
-) -> Neighbours
+) -> UpToEight
     requires { ⌜ Board (now cells) rows columns ⌝ }
     requires { ⌜ On rows columns row column ⌝ }
     ensures { λ r. ⌜ r ≡ listed (keep (λ d. eqb (cellOf (now (cells .entry)) d) value) (neighbours edgeless rows columns (row * columns + column))) ⌝ }
@@ -205,7 +205,7 @@ pub fn neighbours_showing(
             len += 1;
         }
     }
-    Neighbours { cells: kept, len }
+    UpToEight { cells: kept, len }
 }
 
 // A cell's number as an index.

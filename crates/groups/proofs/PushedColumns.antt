@@ -21,7 +21,7 @@ use Rattle.lists.proofs.Arrays.{pad-push, pad-take}
 use Rattle.lists.proofs.Unions.{last-own, last-other}
 use Rattle.lists.proofs.PlacesAndRanges.{nodup-before, keep-range-within}
 use Rattle.grid.specs.Window.{listed}
-use Rattle.grid.specs.declared.window.Neighbours.{Neighbours}
+use Rattle.grid.specs.declared.window.UpToEight.{UpToEight}
 use Rattle.blocks.specs.BlockSets.{slotCells}
 use Rattle.blocks.specs.Places.{Slots}
 use Rattle.blocks.proofs.SlotLaws.{slots-filled, put-there, put-elsewhere}
@@ -29,7 +29,7 @@ use Rattle.groups.specs.Combining.{ColumnsAre, columnIn, columnWith}
 
 -- ---- a number put behind a list of at most eight
 
-module _ (list : Neighbours) (l : List ℕ) (is : list ≡ listed l) (x : ℕ) (room : length l < 8) where
+module _ (list : UpToEight) (l : List ℕ) (is : list ≡ listed l) (x : ℕ) (room : length l < 8) where
   pub pushed-few : list .len < 8
   pushed-few = rw is room
 

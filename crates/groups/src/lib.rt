@@ -5,7 +5,7 @@ use blocks::Bounds;
 use blocks::NO_CELL;
 use blocks::put_slots;
 use blocks::slots_at;
-use grid::window::Neighbours;
+use grid::window::UpToEight;
 use grid::window::wide;
 ghost use mathlib.Core.Path.{_≡_};
 ghost use mathlib.Core.Bool.{true};
@@ -51,7 +51,7 @@ fn push_slot(slots: &mut [u16; 8192], place: usize, number: u16)
     put_slots(
         slots,
         place,
-        Neighbours {
+        UpToEight {
             cells,
             len: len + 1,
         },
@@ -59,7 +59,7 @@ fn push_slot(slots: &mut [u16; 8192], place: usize, number: u16)
 }
 
 // Puts the place of an equation behind the columns of its cells.
-fn push_equation(list: Neighbours, place: u16, columns: &mut [u16; 8192])
+fn push_equation(list: UpToEight, place: u16, columns: &mut [u16; 8192])
     requires { ⌜ OnBoard list × (nodup (cellsIn list) ≡ true) × (place < 1024) ⌝ }
     requires { ⌜ Slots (now columns) 1024 ⌝ }
     requires { ⌜ all (λ c. ltb (length (slotCells (now columns) c)) 8) (cellsIn list) ≡ true ⌝ }

@@ -9,7 +9,7 @@ use Rattle.lists.specs.Lists.{any}
 use Rattle.lists.proofs.Tests.{Decided, decided, clash}
 use Rattle.lists.proofs.Unions.{meets-mutual}
 use Rattle.grid.specs.Window.{listed}
-use Rattle.grid.specs.declared.window.Neighbours.{Neighbours}
+use Rattle.grid.specs.declared.window.UpToEight.{UpToEight}
 use Rattle.blocks.specs.BlockSets.{slotCells}
 use Rattle.blocks.specs.Places.{marked, Marks, cellsIn}
 use Rattle.blocks.proofs.MarkLaws.{marks-meets}
@@ -17,7 +17,7 @@ use Rattle.blocks.proofs.EightCells.{cells-listed}
 use Rattle.sources.specs.Reading.{slotsMeet, nearEnough, Slots}
 
 -- the list of d held against the marks of c
-pub marks-tell : (slots : List ℕ) (c d : ℕ) {own other : Neighbours} (marks : List ℕ) {t : Bool} → own ≡ listed (slotCells slots c)
+pub marks-tell : (slots : List ℕ) (c d : ℕ) {own other : UpToEight} (marks : List ℕ) {t : Bool} → own ≡ listed (slotCells slots c)
     → other ≡ listed (slotCells slots d) → Marks marks (cellsIn own) → t ≡ any (marked marks) (cellsIn other) → t ≡ slotsMeet slots c d
 marks-tell slots c d {own} {other} marks is-own is-other marked told =
     told ∙ marks-meets marked (cellsIn other) ∙ meets-mutual (cellsIn other) (cellsIn own)

@@ -12,7 +12,7 @@ use Rattle.lists.proofs.Kept.{keep-map}
 use Rattle.lists.proofs.Arrays.{length-pad, pad-take}
 use Rattle.lists.proofs.Collected.{keep-few}
 use Rattle.grid.specs.Window.{listed}
-use Rattle.grid.specs.declared.window.Neighbours.{Neighbours}
+use Rattle.grid.specs.declared.window.UpToEight.{UpToEight}
 use Rattle.blocks.specs.Blocks.{BlockEquation}
 use Rattle.blocks.specs.BlockSets.{slotsOf, slotCells}
 use Rattle.blocks.specs.Places.{marked, equationsFrom}
@@ -70,13 +70,13 @@ module _ (subtracted : Bool) (mines known slots rests : List ℕ) where
   pub left-eight : (e : ℕ) → length (slotsOf (leftAt e)) ≡ 8
   left-eight e = length-pad 8 65535 (leftAt e .cells) (few e)
 
-  module _ (near : Neighbours) (e : ℕ) (is : near ≡ listed (slotCells slots e)) where
+  module _ (near : UpToEight) (e : ℕ) (is : near ≡ listed (slotCells slots e)) where
     -- its remainder
     pub left-rest-is : (r : ℕ) → r ≡ getD rests e 0 - count (marked mines) (take (near .len) (near .cells)) → r ≡ leftAt e .rest
     left-rest-is r w = w ∙ ap (λ (l : List ℕ). getD rests e 0 - count (marked mines) l) (listed-cells near slots e is)
 
     -- its cells
-    module _ (left : Neighbours) (w : left ≡ listed (keep (λ (c : ℕ). eqb (getD known c 0) 0) (take (near .len) (near .cells)))) where
+    module _ (left : UpToEight) (w : left ≡ listed (keep (λ (c : ℕ). eqb (getD known c 0) 0) (take (near .len) (near .cells)))) where
       left-list-is : left ≡ listed (leftAt e .cells)
       left-list-is = w ∙ ap (λ (l : List ℕ). listed (keep (λ (c : ℕ). eqb (getD known c 0) 0) l)) (listed-cells near slots e is)
 

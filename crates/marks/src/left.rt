@@ -9,7 +9,7 @@ use blocks::bounds_at;
 use blocks::empty_set;
 use blocks::put_slots;
 use blocks::slots_at;
-use grid::window::Neighbours;
+use grid::window::UpToEight;
 use grid::window::wide;
 ghost use mathlib.Core.Path.{_≡_};
 ghost use mathlib.Core.Bool.{_||_};
@@ -26,7 +26,7 @@ ghost use Rattle.blocks.specs.Places.{marked, OnBoard, Slots, Arrays, Room, equ
 ghost use Rattle.marks.specs.Marked.{stays, leftEquation, leftEquations, leftBlock, leftBlocks};
 
 // The cells of a list that are not known.
-fn left_list(list: Neighbours, known: &[u8; 1024]) -> Neighbours
+fn left_list(list: UpToEight, known: &[u8; 1024]) -> UpToEight
     requires { ⌜ OnBoard list ⌝ }
     ensures { λ r. ⌜ r ≡ listed (keep (λ c. eqb (getD (now (known .entry)) c 0) 0) (take (list .len) (list .cells))) ⌝ }
 {
@@ -40,14 +40,14 @@ fn left_list(list: Neighbours, known: &[u8; 1024]) -> Neighbours
             n += 1;
         }
     }
-    Neighbours {
+    UpToEight {
         cells: left,
         len: n,
     }
 }
 
 // A remainder less the mines among an equation's cells. No remainder plus 8 of a frontier is below its number of cells, so there 0 never stands in for less.
-fn left_rest(rest: u8, mines: &[u8; 1024], list: Neighbours) -> u8
+fn left_rest(rest: u8, mines: &[u8; 1024], list: UpToEight) -> u8
     requires { ⌜ OnBoard list ⌝ }
     ensures { λ r. ⌜ r ≡ rest - count (marked (now (mines .entry))) (take (list .len) (list .cells)) ⌝ }
 {

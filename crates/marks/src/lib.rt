@@ -4,7 +4,7 @@
 pub mod left;
 pub mod listing;
 
-use grid::window::Neighbours;
+use grid::window::UpToEight;
 use grid::window::wide;
 ghost use mathlib.Core.Path.{_≡_};
 ghost use mathlib.Core.Bool.{true, _||_};
@@ -16,7 +16,7 @@ ghost use Rattle.blocks.specs.Places.{marked, OnBoard};
 ghost use Rattle.marks.specs.Written.{written};
 
 // How many cells of a list are marked.
-pub fn count_marked(marks: &[u8; 1024], list: Neighbours) -> usize
+pub fn count_marked(marks: &[u8; 1024], list: UpToEight) -> usize
     requires { ⌜ OnBoard list ⌝ }
     ensures { λ r. ⌜ r ≡ count (marked (now (marks .entry))) (take (list .len) (list .cells)) ⌝ }
 {

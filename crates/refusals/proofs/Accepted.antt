@@ -3,7 +3,7 @@
 use mathlib.Core.Path.{_≡_}
 use mathlib.Core.Logic.{_⊎_, _≢_}
 use mathlib.Core.Bool.{Bool, true, _&&_}
-use mathlib.Core.List.{List, _∷_}
+use mathlib.Core.List.{List}
 use Prim.Native.Nat.{ℕ, _*_, _≤_, _<_}
 use native.Mathlib.Omega.{arith}
 use lib.ListN.{length, getD}
@@ -20,7 +20,7 @@ use Rattle.refusals.proofs.Starts.{startCell-within}
 use Rattle.refusals.proofs.CellValues.{board-cell, position-shows}
 use Rattle.refusals.proofs.Numbers.{numberOk, number-counts}
 use Rattle.refusals.proofs.FirstFailure.{accepted-at}
-pub use Rattle.refusals.proofs.Sides.{few-cells, sizeOk-sized, sizeOk-rows, sizeOk-columns, lengthOk-is, roomOk-fits}
+pub use Rattle.refusals.proofs.Sides.{sizeOk-sized, sizeOk-rows, sizeOk-columns, lengthOk-is, roomOk-fits}
 
 pub record AcceptedBoard (edgeless : Bool) (rows columns row column : ℕ) (b lent : List ℕ) : Type 0 where
   pub board : Board b rows columns

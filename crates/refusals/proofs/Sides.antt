@@ -13,11 +13,7 @@ use Rattle.lists.proofs.Tests.{and-left, and-right}
 use Rattle.grid.specs.Window.{Sized}
 use Rattle.refusals.specs.Tests.{sizeOk, lengthOk, roomOk}
 
--- sides of at most 32 have at most 1024 cells
-pub few-cells : {rows columns : ℕ} → Sized rows columns → rows * columns ≤ 1024
-few-cells s = mul-le-mul (s .few-rows) (s .few-columns)
-
--- and the number of a cell fits a machine word, whichever of the sides is which
+-- the number of a cell fits a machine word, whichever of the sides is which
 module _ {x y : ℕ} (few : x ≤ 32) (few' : y ≤ 32) where
   pub product-fits : Fits w64 (x * y)
   product-fits = omega (arith, mul-le-mul few few')

@@ -148,7 +148,7 @@ pub fn numbers_ok(edgeless: bool, rows: usize, columns: usize, cells: &[u8]) -> 
     for c in 0..n {
         let v = cells[c];
         if v != 255 {
-            if count_beside(
+            let mines = count_beside(
                 edgeless,
                 rows,
                 columns,
@@ -156,9 +156,8 @@ pub fn numbers_ok(edgeless: bool, rows: usize, columns: usize, cells: &[u8]) -> 
                 c / columns,
                 c % columns,
                 255,
-            )
-                != wide_byte(v)
-            {
+            );
+            if mines != wide_byte(v) {
                 return false;
             }
         }

@@ -14,7 +14,7 @@ use Rattle.lists.specs.Lists.{all, joined}
 use Rattle.lists.proofs.Counted.{counted-more, counted-none}
 use Rattle.lists.proofs.Joined.{joined-append}
 use Rattle.lists.proofs.Stores.{sets-append}
-use Rattle.grid.specs.declared.window.Neighbours.{Neighbours}
+use Rattle.grid.specs.declared.window.UpToEight.{UpToEight}
 use Rattle.lists.proofs.PassingElements.{Each}
 use Rattle.search.specs.Trees.{lowered}
 use Rattle.search.specs.Searching.{unset, treeAt, treeFrom, placed, Kept}
@@ -141,7 +141,7 @@ module _ {order : List ℕ} {groups equations : ℕ} {sizes columns : List ℕ} 
 
 -- ---- a value that is possible
 
-module _ {order : List ℕ} {groups equations : ℕ} {sizes columns : List ℕ} {at g : ℕ} {needs rooms : List ℕ} {v to : ℕ} {list : Neighbours}
+module _ {order : List ℕ} {groups equations : ℕ} {sizes columns : List ℕ} {at g : ℕ} {needs rooms : List ℕ} {v to : ℕ} {list : UpToEight}
     (k : Taken order groups equations sizes columns at g needs rooms v to list)
     {needs-below rooms-below : List ℕ} (low-needs : needs-below ≡ lowered v (places list) needs) (low-rooms : rooms-below ≡ lowered (getD sizes g 0) (places list) rooms) where
   -- how many rows there are

@@ -13,7 +13,7 @@ use Rattle.lists.proofs.Members.{nodup-head}
 use Rattle.lists.proofs.All.{all-implied}
 use Rattle.lists.proofs.Counted.{rest-more, rest-below, counted-none}
 use Rattle.grid.specs.Window.{listed}
-use Rattle.grid.specs.declared.window.Neighbours.{Neighbours}
+use Rattle.grid.specs.declared.window.UpToEight.{UpToEight}
 use Rattle.blocks.specs.BlockSets.{slotCells}
 use Rattle.blocks.specs.Places.{OnBoard}
 use Rattle.blocks.proofs.Between.{slots-eight, listed-cells}
@@ -54,7 +54,7 @@ module _ {order : List ℕ} {groups equations : ℕ} {sizes columns : List ℕ} 
   group-once = nodup-head g (unset order groups (at + 1)) (rw unset-more at (nodup-drop at (take groups order) (h .ordered .once)))
 
   -- its column, as the code lists it
-  module _ (list : Neighbours) (l : list ≡ listed (slotCells columns g)) where
+  module _ (list : UpToEight) (l : list ≡ listed (slotCells columns g)) where
     pub column-is : take (list .len) (list .cells) ≡ slotCells columns g
     column-is = listed-cells list columns g l
 

@@ -8,7 +8,7 @@ use native.Mathlib.Omega.{arith}
 use lib.Dec.{eqb}
 use lib.ListN.{length, getD, set, length-append, length-map}
 use Rattle.lists.specs.Lists.{all, has}
-use Rattle.grid.specs.declared.window.Neighbours.{Neighbours}
+use Rattle.grid.specs.declared.window.UpToEight.{UpToEight}
 use Rattle.blocks.specs.BlockSets.{slotCells}
 use Rattle.search.specs.Trees.{lowered, possible}
 use Rattle.search.specs.Searching.{unset, treeAt, treeFrom, Kept}
@@ -93,7 +93,7 @@ module _ {order : List ℕ} {groups equations : ℕ} {sizes columns : List ℕ} 
 
 -- ---- a value that is possible
 
-module _ {order : List ℕ} {groups equations : ℕ} {sizes columns : List ℕ} {at g : ℕ} {needs rooms : List ℕ} {v to : ℕ} {list : Neighbours}
+module _ {order : List ℕ} {groups equations : ℕ} {sizes columns : List ℕ} {at g : ℕ} {needs rooms : List ℕ} {v to : ℕ} {list : UpToEight}
     (k : Taken order groups equations sizes columns at g needs rooms v to list) (values : List ℕ) (long : length values ≡ 1024)
     {middle : List ℕ} {left rest : ℕ} {needs-below rooms-below : List ℕ} (low-needs : needs-below ≡ lowered v (places list) needs) (low-rooms : rooms-below ≡ lowered (getD sizes g 0) (places list) rooms)
     (s : Spent (treeAt order groups sizes columns (at + 1) needs-below rooms-below) (unset order groups (at + 1)) (set values g v) middle left rest) where

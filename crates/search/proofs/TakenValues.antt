@@ -8,7 +8,7 @@ use Prim.Native.Nat.{ℕ, suc, _+_, _-_, _≤_}
 use lib.ListN.{length, getD, take}
 use Rattle.lists.specs.Lists.{nodup}
 use Rattle.grid.specs.Window.{listed}
-use Rattle.grid.specs.declared.window.Neighbours.{Neighbours}
+use Rattle.grid.specs.declared.window.UpToEight.{UpToEight}
 use Rattle.blocks.specs.BlockSets.{slotCells}
 use Rattle.blocks.specs.Places.{OnBoard}
 use Rattle.search.specs.Trees.{lowered, possible}
@@ -18,18 +18,18 @@ use Rattle.search.proofs.OrderedGroups.{Group, column-is, column-below,
 use Rattle.search.proofs.Branches.{from-possible}
 
 -- the places of a list
-abbrev pub places : Neighbours → List ℕ
+abbrev pub places : UpToEight → List ℕ
 places list = take (list .len) (list .cells)
 
 -- group g of the order can get v mines
-pub record Taken (order : List ℕ) (groups equations : ℕ) (sizes columns : List ℕ) (at g : ℕ) (needs rooms : List ℕ) (v to : ℕ) (list : Neighbours) : Type 0 where
+pub record Taken (order : List ℕ) (groups equations : ℕ) (sizes columns : List ℕ) (at g : ℕ) (needs rooms : List ℕ) (v to : ℕ) (list : UpToEight) : Type 0 where
   pub here : Group order groups equations sizes columns at g
   pub state : State equations needs rooms
   pub within : v ≤ to
   pub column : list ≡ listed (slotCells columns g)
   pub can : possible (getD sizes g 0) (places list) needs rooms v ≡ true
 
-module _ {order : List ℕ} {groups equations : ℕ} {sizes columns : List ℕ} {at g : ℕ} {needs rooms : List ℕ} {v to : ℕ} {list : Neighbours}
+module _ {order : List ℕ} {groups equations : ℕ} {sizes columns : List ℕ} {at g : ℕ} {needs rooms : List ℕ} {v to : ℕ} {list : UpToEight}
     (k : Taken order groups equations sizes columns at g needs rooms v to list) where
   pub taken-on-board : OnBoard list
   taken-on-board = column-on-board (k .here) list (k .column)

@@ -1,7 +1,7 @@
 // The search for solutions: the groups of an order are set one after another, each value from 0 to the group's size that its equations can take; the
 // functions call each other, and the number of unset groups falls. `needs` and `rooms` are lowered on the way down and raised again on the way up.
 use blocks::slots_at;
-use grid::window::Neighbours;
+use grid::window::UpToEight;
 use grid::window::wide;
 ghost use mathlib.Core.Path.{_≡_};
 ghost use mathlib.Core.Bool.{true};
@@ -15,7 +15,7 @@ ghost use Rattle.search.specs.Trees.{lowered, possible as isPossible};
 ghost use Rattle.search.specs.Searching.{raised, Ordered, State, unset, treeAt, treeFrom, Kept};
 
 // Can the equations of a list take v mines in a group of so many cells?
-pub fn possible(list: Neighbours, size: u8, v: u8, needs: &[u8; 1024], rooms: &[u8; 1024]) -> bool
+pub fn possible(list: UpToEight, size: u8, v: u8, needs: &[u8; 1024], rooms: &[u8; 1024]) -> bool
     requires { ⌜ OnBoard list ⌝ }
     requires { ⌜ (size ≤ 8) × (v ≤ 8) × ((e : ℕ) → getD (now needs) e 0 ≤ 8) × ((e : ℕ) → getD (now rooms) e 0 ≤ 8) ⌝ }
     ensures { λ r. ⌜ r ≡ isPossible size (take (list .len) (list .cells)) (now (needs .entry)) (now (rooms .entry)) v ⌝ }
@@ -35,7 +35,7 @@ pub fn possible(list: Neighbours, size: u8, v: u8, needs: &[u8; 1024], rooms: &[
 }
 
 // Lowers the numbers at the places of a list, none of which stands twice, by no more than each is.
-pub fn lower(list: Neighbours, v: u8, numbers: &mut [u8; 1024])
+pub fn lower(list: UpToEight, v: u8, numbers: &mut [u8; 1024])
     requires { ⌜ OnBoard list ⌝ }
     requires { ⌜ nodup (take (list .len) (list .cells)) ≡ true ⌝ }
     requires { ⌜ length (now numbers) ≡ 1024 ⌝ }
@@ -50,7 +50,7 @@ pub fn lower(list: Neighbours, v: u8, numbers: &mut [u8; 1024])
 }
 
 // Raises the numbers at the places of a list: by as much, it undoes `lower`.
-pub fn raise(list: Neighbours, v: u8, numbers: &mut [u8; 1024])
+pub fn raise(list: UpToEight, v: u8, numbers: &mut [u8; 1024])
     requires { ⌜ OnBoard list ⌝ }
     requires { ⌜ length (now numbers) ≡ 1024 ⌝ }
     requires { ⌜ (v ≤ 8) × ((e : ℕ) → getD (now numbers) e 0 ≤ 8) ⌝ }

@@ -1,7 +1,7 @@
 // Groups that are settled without a search: where the equations of a group leave it one value, it gets that value before anything is asked. Its equations
 // then need less, which may leave another group one value, and so on until a sweep over the groups settles none. The search goes over the other groups alone.
 use blocks::slots_at;
-use grid::window::Neighbours;
+use grid::window::UpToEight;
 use grid::window::wide;
 use orders::Order;
 use search::lower;
@@ -33,7 +33,7 @@ pub struct Settled {
 }
 
 // What the equations of a list leave a group of so many cells: no more than each needs, and so many that the cells of its other groups do for the rest.
-fn span_left(list: Neighbours, size: u8, needs: &[u8; 1024], rooms: &[u8; 1024]) -> Span
+fn span_left(list: UpToEight, size: u8, needs: &[u8; 1024], rooms: &[u8; 1024]) -> Span
     requires { ⌜ OnBoard list ⌝ }
     requires { ⌜ (size ≤ 8) × ((e : ℕ) → getD (now needs) e 0 ≤ 8) × ((e : ℕ) → getD (now rooms) e 0 ≤ 8) ⌝ }
     ensures { λ r. ⌜ Leaves size (take (list .len) (list .cells)) (now (needs .entry)) (now (rooms .entry)) (r .least) (r .most) ⌝ }

@@ -13,7 +13,7 @@ use Rattle.lists.proofs.Rearranged.{length-range}
 use Rattle.lists.proofs.Arrays.{length-pad, pad-read}
 use Rattle.lists.proofs.Joined.{read-all, joined-map-map}
 use Rattle.grid.specs.Window.{listed}
-use Rattle.grid.specs.declared.window.Neighbours.{Neighbours}
+use Rattle.grid.specs.declared.window.UpToEight.{UpToEight}
 use Rattle.blocks.specs.Blocks.{Block}
 use Rattle.blocks.specs.BlockSets.{slotCells, beginAt, endsFrom, slotsOf, allCells, allEquations, blockSet, blockAt, blocksOf, Small, Whole}
 use Rattle.blocks.specs.declared.BlockSet.{BlockSet}
@@ -49,7 +49,7 @@ module _ (n rest : ℕ) (e : n ≡ rest) where
 -- ---- an equation's cells
 
 -- the list of eight that holds them, with its count
-pub listed-fits : (slots : List ℕ) (e : ℕ) (list : Neighbours) → list ≡ listed (slotCells slots e) → list .len ≤ length (list .cells)
+pub listed-fits : (slots : List ℕ) (e : ℕ) (list : UpToEight) → list ≡ listed (slotCells slots e) → list .len ≤ length (list .cells)
 listed-fits slots e list h = rw h (omega (arith, slots-eight slots e, length-pad 8 0 (slotCells slots e) (slots-eight slots e)))
 
 -- read back
@@ -97,13 +97,13 @@ blocks-by-places s =
 
 module _ {b : List ℕ} {at : ℕ} {first : List ℕ} {r : ℕ} {second : List ℕ} {s : ℕ} {third : List ℕ} {t : ℕ} {after : List ℕ} {u : ℕ} (room : at ≤ length b) where
   -- an equation, whose cells the code has in a list of eight
-  pub equation-written : (slots rests : List ℕ) (e : ℕ) (list : Neighbours) → list ≡ listed (slotCells slots e)
+  pub equation-written : (slots rests : List ℕ) (e : ℕ) (list : UpToEight) → list ≡ listed (slotCells slots e)
       → Written b at (32 ∷ 124 ∷ 32 ∷ []) first r → Written first r (remainderText (getD rests e 0)) second s → Written second s (61 ∷ []) third t
       → Written third t (numbersText (numbersIn (list .cells) 0 (list .len))) after u
       → Written b at (equationText (equationIn slots rests e)) after u
   unfolding equationText
   equation-written slots rests e list h v w x y =
-      let l : numbersIn (list .cells) 0 (list .len) ≡ slotCells slots e = ap (λ (n : Neighbours). numbersIn (n .cells) 0 (n .len)) h ∙ listed-numbers (slotCells slots e) in
+      let l : numbersIn (list .cells) 0 (list .len) ≡ slotCells slots e = ap (λ (n : UpToEight). numbersIn (n .cells) 0 (n .len)) h ∙ listed-numbers (slotCells slots e) in
       written-both room (written-both room v w) (written-both (written-within w) x (rw l at y))
 
   -- a block, where the code has each part's begin and end

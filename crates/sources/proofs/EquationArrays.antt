@@ -17,9 +17,9 @@ use Rattle.lists.proofs.Collected.{keep-few}
 use Rattle.lists.proofs.Joined.{read-all, map-range, pad-sets}
 use Rattle.lists.proofs.Unions.{all-of, mem-has}
 use Rattle.grid.specs.Cells.{shows}
+use Rattle.grid.proofs.Places.{few-cells}
 use Rattle.grid.specs.Window.{neighbours, Board}
 use Rattle.grid.proofs.Neighbours.{neighbours-few}
-use Rattle.refusals.proofs.Accepted.{few-cells}
 use Rattle.fitting.specs.Equations.{isClosed}
 use Rattle.blocks.specs.Blocks.{BlockEquation}
 use Rattle.blocks.specs.BlockSets.{slotsOf, slotCells, smallEquation}

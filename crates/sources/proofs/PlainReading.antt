@@ -12,7 +12,7 @@ use Rattle.lists.proofs.All.{all-has}
 use Rattle.lists.proofs.Arrays.{length-pad}
 use Rattle.lists.proofs.Joined.{map-ext}
 use Rattle.grid.specs.Window.{neighbours, Board}
-use Rattle.refusals.proofs.Accepted.{few-cells}
+use Rattle.grid.proofs.Places.{few-cells}
 use Rattle.blocks.specs.Blocks.{BlockEquation}
 use Rattle.blocks.specs.BlockSets.{slotsOf, slotCells}
 use Rattle.blocks.proofs.Between.{slots-eight}

@@ -17,8 +17,8 @@ use Rattle.lists.proofs.Members.{kept-has, kept-passes, range-in}
 use Rattle.lists.proofs.Unions.{meets-at}
 use Rattle.lists.proofs.All.{has-all}
 use Rattle.grid.specs.Window.{neighbours, Board}
+use Rattle.grid.proofs.Places.{few-cells}
 use Rattle.grid.proofs.Neighbours.{Touch, neighbours-touch}
-use Rattle.refusals.proofs.Accepted.{few-cells}
 use Rattle.fitting.specs.Equations.{isClosed}
 use Rattle.blocks.specs.BlockSets.{slotCells}
 use Rattle.blocks.proofs.SlotLaws.{slots-none}

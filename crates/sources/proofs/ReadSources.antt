@@ -12,8 +12,8 @@ use Rattle.lists.specs.Lists.{keep, range, all}
 use Rattle.lists.proofs.Tests.{and-left, and-right}
 use Rattle.lists.proofs.All.{all-implied}
 use Rattle.grid.specs.Cells.{shows}
+use Rattle.grid.proofs.Places.{few-cells}
 use Rattle.grid.specs.Window.{neighbours, Board}
-use Rattle.refusals.proofs.Accepted.{few-cells}
 use Rattle.sources.specs.Sources.{isSource, sources}
 use Rattle.sources.specs.Reading.{Read, Cells}
 use Rattle.sources.proofs.SourceLaws.{sourceBelow}

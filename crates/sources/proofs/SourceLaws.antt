@@ -19,10 +19,10 @@ use Rattle.lists.proofs.Kept.{keep-ext, any-ext, some-kept, keep-range-push, ke
 use Rattle.lists.proofs.All.{all-keep, has-all}
 use Rattle.lists.proofs.Collected.{keep-few}
 use Rattle.grid.specs.Cells.{cellOf, shows}
+use Rattle.grid.proofs.Places.{few-cells}
 use Rattle.grid.specs.Window.{neighbours, listed, Board, On}
-use Rattle.grid.specs.declared.window.Neighbours.{Neighbours}
+use Rattle.grid.specs.declared.window.UpToEight.{UpToEight}
 use Rattle.grid.proofs.Neighbours.{neighbours-on, neighbours-few, cell-on}
-use Rattle.refusals.proofs.Accepted.{few-cells}
 use Rattle.fitting.specs.Equations.{isClosed}
 use Rattle.blocks.specs.BlockSets.{slotCells}
 use Rattle.blocks.specs.Places.{cellsIn}
@@ -149,7 +149,7 @@ module _ (edgeless : Bool) {rows columns : ℕ} {p : List ℕ} (board : Board p 
       is-source u h = rw (le-leb (shows p cell) 8 (omega (arith, shown-there)), sym (closed-some cell) ∙ sym told ∙ h)
 
     -- the closed neighbours as the code lists them
-    module _ {list : Neighbours} (told : list ≡ listed (keep closedThere (near cell))) where
+    module _ {list : UpToEight} (told : list ≡ listed (keep closedThere (near cell))) where
       pub listed-few : list .len ≤ 8
       listed-few = rw told (keep-few closedThere (near cell) (neighbours-few edgeless rows columns cell))
 

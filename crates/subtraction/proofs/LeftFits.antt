@@ -1,5 +1,5 @@
 -- What subtraction leaves fits into a block set where its blocks do: it stands among their cells, and blocks without a cell are dropped. Rests on the laws of
--- blocks made smaller and of what a rule leaves, of the crate rules. Assumes nothing.
+-- blocks made smaller and of what a rule leaves, of the crate direct. Assumes nothing.
 use mathlib.Core.Bool.{Bool, not, _||_}
 use mathlib.Core.List.{List, map}
 use native.Mathlib.Omega.{arith}
@@ -9,10 +9,10 @@ use Rattle.lists.proofs.PassingElements.{each-mapped}
 use Rattle.lists.proofs.Among.{Among, keep-among}
 use Rattle.blocks.specs.Blocks.{BlockEquation, Block}
 use Rattle.blocks.specs.BlockSets.{allCells, Small}
-use Rattle.rules.specs.Found.{lessMines, lessSafe}
-use Rattle.rules.specs.Direct.{direct}
-use Rattle.rules.proofs.SmallerBlocks.{SmallEquation, less-mines-small, less-safe-small, Smaller, made-among, made-fits, some-among, some-fits}
-use Rattle.rules.proofs.LeftFits.{split-fits, direct-left-fits}
+use Rattle.direct.specs.Found.{lessMines, lessSafe}
+use Rattle.direct.specs.Direct.{direct}
+use Rattle.direct.proofs.SmallerBlocks.{SmallEquation, less-mines-small, less-safe-small, Smaller, made-among, made-fits, some-among, some-fits}
+use Rattle.direct.proofs.LeftFits.{split-fits, direct-left-fits}
 use Rattle.subtraction.specs.Minus.{minusMines, minusSafe, minusLeft, minusBlocks, subtraction}
 use Rattle.subtraction.proofs.MinusLaws.{subtraction-blocks-left}
 

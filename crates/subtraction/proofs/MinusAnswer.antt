@@ -17,12 +17,12 @@ use Rattle.blocks.specs.declared.BlockSet.{BlockSet}
 use Rattle.blocks.proofs.Reading.{blocks-of-set}
 use Rattle.chunks.specs.Chunks.{chunkMatrixes}
 use Rattle.marks.specs.Marked.{Ready, leftBlocks}
-use Rattle.rules.specs.Found.{contradicted}
-use Rattle.rules.specs.Direct.{fromLast, direct}
-use Rattle.rules.specs.Answers.{ruleAnswer}
-use Rattle.rules.specs.declared.answer.RuleAnswer.{RuleAnswer}
-use Rattle.rules.proofs.DirectLaws.{direct-contradiction}
-use Rattle.rules.proofs.LeftFits.{direct-left-fits}
+use Rattle.direct.specs.Found.{contradicted}
+use Rattle.direct.specs.Direct.{fromLast, direct}
+use Rattle.direct.specs.Answers.{ruleAnswer}
+use Rattle.direct.specs.declared.answer.RuleAnswer.{RuleAnswer}
+use Rattle.direct.proofs.DirectLaws.{direct-contradiction}
+use Rattle.direct.proofs.LeftFits.{direct-left-fits}
 use Rattle.subtraction.specs.Minus.{minusMines, minusSafe, minusBlocks, subtraction}
 use Rattle.subtraction.specs.Pairs.{Subtracts}
 use Rattle.subtraction.specs.declared.Subtracted.{Subtracted}

@@ -1,6 +1,6 @@
 -- The subtraction rule. Of two equations that share a cell, where the one has as many own cells as mines more, these are mines and the other's own cells
 -- are free: counts of two lists differ as those of their own cells. So the lists have what every solution has, a solution solves what is left, and the
--- direct pass on the blocks left is sound in its turn. Rests on TakenOut, Answers and DirectLaws of the crate rules. Assumes nothing.
+-- direct pass on the blocks left is sound in its turn. Rests on TakenOut, Answers and DirectLaws of the crate direct. Assumes nothing.
 use mathlib.Core.Path.{_≡_, ap, _∙_}
 use mathlib.Core.Logic.{_⊎_, inl, inr}
 use mathlib.Core.Bool.{Bool, true, false, not, cond, _&&_, _||_}
@@ -23,11 +23,11 @@ use Rattle.blocks.specs.Blocks.{BlockEquation, Block, says}
 use Rattle.blocks.specs.BlockSets.{allCells, allEquations}
 use Rattle.blocks.proofs.ProperBlocks.{Proper}
 use Rattle.chunks.specs.Chunks.{chunkMatrixes}
-use Rattle.rules.specs.Found.{contradicted, lessMines, lessSafe}
-use Rattle.rules.specs.Direct.{fromLast, direct}
-use Rattle.rules.proofs.TakenOut.{taken-out-proper, SolvedBy, SolvesAll, solves-less-mines, solves-less-safe, RestCovers, RestsCover, covers-less-mines, covers-less-safe}
-use Rattle.rules.proofs.Answers.{each-of-made, each-of-kept, solves-block, from-last-each, answer-contradiction, answer-alone, answer-safe, answer-mines, answer-left, unless-has}
-use Rattle.rules.proofs.DirectLaws.{direct-among, direct-no-contradiction, direct-mines-true, direct-safe-false}
+use Rattle.direct.specs.Found.{contradicted, lessMines, lessSafe}
+use Rattle.direct.specs.Direct.{fromLast, direct}
+use Rattle.direct.proofs.TakenOut.{taken-out-proper, SolvedBy, SolvesAll, solves-less-mines, solves-less-safe, RestCovers, RestsCover, covers-less-mines, covers-less-safe}
+use Rattle.direct.proofs.Answers.{each-of-made, each-of-kept, solves-block, from-last-each, answer-contradiction, answer-alone, answer-safe, answer-mines, answer-left, unless-has}
+use Rattle.direct.proofs.DirectLaws.{direct-among, direct-no-contradiction, direct-mines-true, direct-safe-false}
 use Rattle.subtraction.specs.Minus.{ownCells, exceeds, somePair, minusMines, minusSafe, minusLeft, minusBlocks, subtraction}
 
 -- ---- a pair of equations

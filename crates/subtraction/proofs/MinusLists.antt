@@ -17,10 +17,10 @@ use Rattle.blocks.proofs.Slots.{allSlots}
 use Rattle.sources.proofs.EquationArrays.{slots-stored, rests-stored, arrays-slots, arrays-read}
 use Rattle.marks.specs.Marked.{Ready, leftEquations}
 use Rattle.marks.proofs.WhatIsLeft.{equations-fewer, equations-pass, small-left}
-use Rattle.rules.specs.Direct.{sureMines, sureSafe, fromLast}
-use Rattle.rules.specs.Answers.{listsOf, sweptLists}
-use Rattle.rules.specs.declared.answer.Lists.{Lists}
-use Rattle.rules.proofs.WholeSets.{equations-of-all}
+use Rattle.direct.specs.Direct.{sureMines, sureSafe, fromLast}
+use Rattle.direct.specs.Answers.{listsOf, sweptLists}
+use Rattle.direct.specs.declared.answer.Lists.{Lists}
+use Rattle.direct.proofs.WholeSets.{equations-of-all}
 use Rattle.subtraction.specs.Minus.{minusMines, minusSafe, leftOf}
 use Rattle.subtraction.specs.Pairs.{Subtracts, minusLists}
 use Rattle.subtraction.specs.declared.Subtracted.{Subtracted}

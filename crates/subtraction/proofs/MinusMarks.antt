@@ -19,8 +19,8 @@ use Rattle.blocks.specs.Blocks.{BlockEquation, Block}
 use Rattle.blocks.specs.BlockSets.{allCells, allEquations}
 use Rattle.blocks.specs.Places.{marked}
 use Rattle.marks.specs.Marked.{Ready, leftEquation, stays, leftEquations, leftBlock, leftBlocks}
-use Rattle.rules.specs.Found.{lessMines, lessSafe}
-use Rattle.rules.specs.Direct.{fromLast}
+use Rattle.direct.specs.Found.{lessMines, lessSafe}
+use Rattle.direct.specs.Direct.{fromLast}
 use Rattle.subtraction.specs.Minus.{ownCells, minusMines, minusSafe, minusLeft, leftOf, minusBlocks}
 use Rattle.subtraction.proofs.MinusLaws.{some-pair}
 use Rattle.subtraction.proofs.Pairs.{minesOf, safeOf}

@@ -15,7 +15,7 @@ use Rattle.blocks.specs.BlockSets.{blocksOf, Whole}
 use Rattle.blocks.specs.Places.{marked}
 use Rattle.blocks.specs.declared.BlockSet.{BlockSet}
 use Rattle.marks.specs.Marked.{Ready, cellsWith, allWith}
-use Rattle.rules.specs.Direct.{fromLast}
+use Rattle.direct.specs.Direct.{fromLast}
 use Rattle.subtraction.specs.Minus.{minusMines, minusSafe}
 use Rattle.subtraction.specs.Pairs.{Subtracts}
 use Rattle.subtraction.specs.declared.Subtracted.{Subtracted}

@@ -13,7 +13,7 @@ use Rattle.lists.specs.Lists.{keep, count, any, has, nodup, meets}
 use Rattle.lists.proofs.Counts.{count-le, count-ext, count-split, length-keep}
 use Rattle.lists.proofs.Rearranged.{count-all, any-count}
 use Rattle.grid.specs.Window.{listed}
-use Rattle.grid.specs.declared.window.Neighbours.{Neighbours}
+use Rattle.grid.specs.declared.window.UpToEight.{UpToEight}
 use Rattle.blocks.specs.Blocks.{BlockEquation}
 use Rattle.blocks.specs.BlockSets.{slotCells, beginAt}
 use Rattle.blocks.specs.Places.{marked, Marks, equationsFrom}
@@ -89,7 +89,7 @@ minesIn slots rests ends d b = minesOf (equationsFrom slots rests (beginAt ends 
 abbrev pub safeIn : List ℕ → List ℕ → List ℕ → ℕ → ℕ → Bool
 safeIn slots rests ends d b = safeOf (equationsFrom slots rests (beginAt ends b) (getD ends b 0)) d
 
-module _ (slots rests : List ℕ) (e f : ℕ) (list other : Neighbours) (first : list ≡ listed (slotCells slots e)) (second : other ≡ listed (slotCells slots f)) where
+module _ (slots rests : List ℕ) (e f : ℕ) (list other : UpToEight) (first : list ≡ listed (slotCells slots e)) (second : other ≡ listed (slotCells slots f)) where
   -- the equations at the two places
   abbrev one : BlockEquation
   one = equationIn slots rests e
@@ -123,7 +123,7 @@ module _ (slots rests : List ℕ) (e f : ℕ) (list other : Neighbours) (first :
       -- they do; `rest` and `other-rest` are their remainders plus 8
       module _ (some : 0 < shared) (rest : ℕ) (rest-is : rest ≡ getD rests e 0) (other-rest : ℕ) (other-rest-is : other-rest ≡ getD rests f 0) where
         long : list .len ≡ length (slotCells slots e)
-        long = ap (λ (n : Neighbours). n .len) first
+        long = ap (λ (n : UpToEight). n .len) first
 
         -- the first exceeds the second
         pub pair-found : rest + shared ≡ other-rest + list .len → exceeds one two ≡ true

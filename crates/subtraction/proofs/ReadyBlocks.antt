@@ -19,10 +19,10 @@ use Rattle.lists.proofs.ListsOfElements.{one-once}
 use Rattle.blocks.specs.Blocks.{BlockEquation, Block}
 use Rattle.blocks.specs.BlockSets.{allCells, allEquations, Small}
 use Rattle.marks.specs.Marked.{Ready}
-use Rattle.rules.specs.Found.{lessMines, lessSafe}
-use Rattle.rules.specs.Direct.{sureMines, sureSafe, fromLast, direct}
-use Rattle.rules.proofs.TakenOut.{less-mines-once, less-safe-once}
-use Rattle.rules.proofs.DirectLaws.{sure-mine-equation, sure-safe-equation, sure-mines-once, sure-safe-once, direct-mines, direct-safe}
+use Rattle.direct.specs.Found.{lessMines, lessSafe}
+use Rattle.direct.specs.Direct.{sureMines, sureSafe, fromLast, direct}
+use Rattle.direct.proofs.TakenOut.{less-mines-once, less-safe-once}
+use Rattle.direct.proofs.DirectLaws.{sure-mine-equation, sure-safe-equation, sure-mines-once, sure-safe-once, direct-mines, direct-safe}
 use Rattle.subtraction.specs.Minus.{minusMines, minusSafe, minusLeft, minusBlocks}
 use Rattle.subtraction.proofs.MinusLaws.{minus-mines-among, minus-safe-among, listed-among}
 use Rattle.subtraction.proofs.LeftFits.{hasCell, left-among, minus-among}

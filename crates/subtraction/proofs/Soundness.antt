@@ -12,8 +12,8 @@ use Rattle.blocks.specs.Blocks.{BlockEquation, Block}
 use Rattle.frontier.specs.Frontier.{frontier}
 use Rattle.frontier.proofs.BlockLaws.{frontier-proper}
 use Rattle.frontier.proofs.Fitting.{fits-solves}
-use Rattle.rules.specs.Found.{ruleOf}
-use Rattle.rules.proofs.Soundness.{SoundAt, rule-sound}
+use Rattle.direct.specs.Found.{ruleOf}
+use Rattle.direct.proofs.Soundness.{SoundAt, rule-sound}
 use Rattle.subtraction.specs.Minus.{subtraction}
 use Rattle.subtraction.proofs.MinusLaws.{subtraction-alone, subtraction-mines-among, subtraction-safe-among, subtraction-no-contradiction, subtraction-mines-true, subtraction-safe-false}
 

@@ -18,9 +18,9 @@ use Rattle.lists.proofs.Among.{Among, among-length}
 use Rattle.blocks.specs.Blocks.{BlockEquation, Block}
 use Rattle.blocks.specs.BlockSets.{allCells, Small}
 use Rattle.marks.specs.Marked.{Ready}
-use Rattle.rules.specs.Direct.{sureMines, sureSafe, fromLast, direct}
-use Rattle.rules.proofs.DirectLaws.{sure-mine-equation, sure-safe-equation, sure-mines-once, sure-safe-once, direct-mines, direct-safe}
-use Rattle.rules.proofs.AllBlocks.{mines-of-all, safe-of-all}
+use Rattle.direct.specs.Direct.{sureMines, sureSafe, fromLast, direct}
+use Rattle.direct.proofs.DirectLaws.{sure-mine-equation, sure-safe-equation, sure-mines-once, sure-safe-once, direct-mines, direct-safe}
+use Rattle.direct.proofs.AllBlocks.{mines-of-all, safe-of-all}
 use Rattle.subtraction.specs.Minus.{minusMines, minusSafe, minusLeft, leftOf, minusBlocks, subtraction}
 use Rattle.subtraction.proofs.MinusLaws.{minus-mines-among, minus-safe-among, listed-among}
 use Rattle.subtraction.proofs.LeftFits.{hasCell}

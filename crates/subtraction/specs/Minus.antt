@@ -10,8 +10,8 @@ use Rattle.lists.specs.Lists.{keep, any, empty, has, meets}
 use Rattle.blocks.specs.Blocks.{BlockEquation, Block}
 use Rattle.blocks.specs.BlockSets.{allEquations}
 use Rattle.chunks.specs.Chunks.{chunkMatrixes}
-use Rattle.rules.specs.Found.{Found, contradicted, found, lessMines, lessSafe}
-use Rattle.rules.specs.Direct.{fromLast, direct}
+use Rattle.direct.specs.Found.{Found, contradicted, found, lessMines, lessSafe}
+use Rattle.direct.specs.Direct.{fromLast, direct}
 
 -- the cells of the first equation that the second lacks
 abbrev pub ownCells : BlockEquation → BlockEquation → List ℕ

@@ -9,9 +9,9 @@ use Rattle.lists.specs.Lists.{any, nodup, pad}
 use Rattle.blocks.specs.Blocks.{Block, BlockEquation}
 use Rattle.blocks.specs.BlockSets.{allEquations, slotCells}
 use Rattle.marks.specs.Marked.{leftEquations, leftBlocks}
-use Rattle.rules.specs.Direct.{sureMines, sureSafe, fromLast}
-use Rattle.rules.specs.declared.answer.Lists.{Lists}
-use Rattle.rules.specs.Answers.{listsOf}
+use Rattle.direct.specs.Direct.{sureMines, sureSafe, fromLast}
+use Rattle.direct.specs.declared.answer.Lists.{Lists}
+use Rattle.direct.specs.Answers.{listsOf}
 use Rattle.subtraction.specs.Minus.{minusMines, minusSafe, leftOf, exceeds, minusBlocks}
 use Rattle.subtraction.specs.declared.Subtracted.{Subtracted}
 

@@ -1,5 +1,5 @@
 // Of two lists of cells: the own cells of one, those that the other lacks, marked beside others.
-use grid::window::Neighbours;
+use grid::window::UpToEight;
 use grid::window::wide;
 ghost use mathlib.Core.Path.{_≡_};
 ghost use mathlib.Core.Bool.{not, _||_};
@@ -9,7 +9,7 @@ ghost use Rattle.lists.specs.Lists.{keep, has};
 ghost use Rattle.blocks.specs.Places.{marked, OnBoard};
 
 // Is a cell in a list?
-fn has_cell(list: Neighbours, cell: u16) -> bool
+fn has_cell(list: UpToEight, cell: u16) -> bool
     requires { ⌜ OnBoard list ⌝ }
     ensures { λ r. ⌜ r ≡ has (take (list .len) (list .cells)) cell ⌝ }
 {
@@ -24,7 +24,7 @@ fn has_cell(list: Neighbours, cell: u16) -> bool
 }
 
 // Marks the cells of a list that another lacks.
-pub fn mark_own(list: Neighbours, other: Neighbours, marks: &mut [u8; 1024])
+pub fn mark_own(list: UpToEight, other: UpToEight, marks: &mut [u8; 1024])
     requires { ⌜ OnBoard list × OnBoard other ⌝ }
     requires { ⌜ length (now marks) ≡ 1024 ⌝ }
     ensures { λ _. ⌜ length (now (marks .exit)) ≡ 1024 ⌝ }

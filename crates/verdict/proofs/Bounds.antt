@@ -19,11 +19,11 @@ use Rattle.refusals.proofs.Accepted.{accepted-board}
 use Rattle.fitting.specs.Boards.{Accepted as AcceptedBoard}
 use Rattle.fitting.specs.Passes.{nothing, orElse}
 use Rattle.fitting.proofs.Passes.{rounds-cells, grade-bound}
-use Rattle.rules.specs.Found.{ruleOf}
-use Rattle.rules.specs.Direct.{direct}
+use Rattle.direct.specs.Found.{ruleOf}
+use Rattle.direct.specs.Direct.{direct}
 use Rattle.subtraction.specs.Minus.{subtraction}
-use Rattle.solutions.specs.ThreeRules.{threeRules}
-use Rattle.solutions.proofs.BoardRules.{board-rules-sound}
+use Rattle.enumeration.specs.ThreeRules.{threeRules}
+use Rattle.enumeration.proofs.BoardRules.{board-rules-sound}
 use Rattle.verdict.specs.declared.Verdict.{Verdict}
 use Rattle.verdict.specs.Verdict.{verdictGrade, verdictRounds, VerdictSeen, verdictSeen, verdictAfterTests, judgedFrom, isSolvable}
 use Rattle.verdict.proofs.Admitted.{tested-accepted}

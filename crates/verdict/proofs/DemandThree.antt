@@ -1,6 +1,6 @@
 -- Demand 3 of what the verdict answers, whole: for every board that the tests accept with a safe start, and every list of asks, since the definition of the
 -- answer is the passes over the three rules, which are sound and complete. Rests on `judge-demand-3` of the crate fitting and on the three rules' laws of the
--- crate solutions. Assumes nothing.
+-- crate enumeration. Assumes nothing.
 use mathlib.Core.Path.{_≡_, refl, ap, _∙_}
 use mathlib.Core.Logic.{_≢_}
 use mathlib.Core.Bool.{Bool}
@@ -20,8 +20,8 @@ use Rattle.refusals.proofs.FirstFailure.{not-both, refusal-not-zero}
 use Rattle.fitting.specs.Passes.{Ending, judge}
 use Rattle.fitting.specs.Demand.{Demand3, picture, opened}
 use Rattle.fitting.proofs.Passes.{judge-demand-3}
-use Rattle.solutions.specs.ThreeRules.{threeRules}
-use Rattle.solutions.proofs.BoardRules.{board-rules-sound, board-rules-complete}
+use Rattle.enumeration.specs.ThreeRules.{threeRules}
+use Rattle.enumeration.proofs.BoardRules.{board-rules-sound, board-rules-complete}
 use Rattle.verdict.specs.declared.Verdict.{Verdict}
 use Rattle.verdict.specs.declared.Verdict.the-variants.{Refused}
 use Rattle.verdict.specs.Verdict.{VerdictSeen, verdictSeen, endSeen, judgedFrom, isSolvable, MeetsDemand3}

@@ -12,8 +12,8 @@ use lib.ListN.{length, take, replicate, length-replicate}
 use lib.Seq.{length-take-le}
 use borrow.Author.Tests.{lt-ltb, eq-eqb, ne-eqb}
 use Rattle.grid.specs.Cells.{cellOf}
+use Rattle.grid.proofs.Places.{few-cells}
 use Rattle.grid.specs.Window.{neighbours, Board}
-use Rattle.refusals.proofs.Accepted.{few-cells}
 use Rattle.fitting.specs.Layouts.{Fits}
 use Rattle.fitting.specs.Boards.{Accepted, own}
 use Rattle.fitting.specs.Demand.{picture, opened}
@@ -21,7 +21,7 @@ use Rattle.fitting.specs.Passes.{openCells, passes, judge}
 use Rattle.fitting.proofs.Own.{fit-length}
 use Rattle.fitting.proofs.Steps.{beginning}
 use Rattle.fitting.proofs.Passes.{begin-own}
-use Rattle.solutions.specs.ThreeRules.{threeRules}
+use Rattle.enumeration.specs.ThreeRules.{threeRules}
 use Rattle.verdict.specs.declared.passes.Ending.{Ending}
 use Rattle.verdict.specs.declared.Verdict.the-variants.{Judged}
 use Rattle.verdict.specs.Findings.{endOf}

@@ -19,14 +19,14 @@ use Rattle.fitting.specs.Rules.{Sound}
 use Rattle.fitting.proofs.Steps.{beginning}
 use Rattle.fitting.proofs.Passes.{begin-own, pass-own, passes-keep}
 use Rattle.frontier.specs.Frontier.{frontier}
-use Rattle.rules.specs.Direct.{direct}
-use Rattle.rules.proofs.Soundness.{direct-sound-at}
+use Rattle.direct.specs.Direct.{direct}
+use Rattle.direct.proofs.Soundness.{direct-sound-at}
 use Rattle.subtraction.specs.Minus.{subtraction}
 use Rattle.subtraction.proofs.Soundness.{subtraction-sound-at}
-use Rattle.solutions.specs.Enumeration.{enumerated}
-use Rattle.solutions.specs.ThreeRules.{threeRules}
-use Rattle.solutions.proofs.BoardRules.{board-rules-sound}
-use Rattle.solutions.proofs.Completeness.{enumeration-sound-at}
+use Rattle.enumeration.specs.Enumeration.{enumerated}
+use Rattle.enumeration.specs.ThreeRules.{threeRules}
+use Rattle.enumeration.proofs.BoardRules.{board-rules-sound}
+use Rattle.enumeration.proofs.Completeness.{enumeration-sound-at}
 use Rattle.verdict.proofs.Admitted.{tested-accepted}
 
 -- the positions that the passes from the start s come to

@@ -8,15 +8,15 @@ use Prim.Native.Nat.{ℕ, _+_, _*_, _<_, max}
 use native.Mathlib.Omega.{arith}
 use lib.ListN.{length, take}
 use Rattle.grid.specs.Window.{neighbours, Board}
+use Rattle.grid.proofs.Places.{few-cells}
 use Rattle.grid.proofs.Neighbours.{neighbours-few}
-use Rattle.refusals.proofs.Accepted.{few-cells}
 use Rattle.fitting.specs.Boards.{Accepted}
 use Rattle.fitting.specs.Passes.{openCells, allOpen, ending, passes}
 use Rattle.fitting.proofs.Own.{fit-length}
 use Rattle.marks.specs.Written.{written}
 use Rattle.marks.proofs.WrittenCells.{written-length}
-use Rattle.solutions.specs.ThreeRules.{threeRules}
-use Rattle.solutions.proofs.BoardRules.{board-rules-sound}
+use Rattle.enumeration.specs.ThreeRules.{threeRules}
+use Rattle.enumeration.proofs.BoardRules.{board-rules-sound}
 use Rattle.verdict.specs.Findings.{Finds}
 use Rattle.verdict.specs.declared.finding.Finding.{Finding}
 use Rattle.verdict.proofs.SamePass.{marks-written}

@@ -3,7 +3,7 @@
 -- (`found-cell-is`); so the first of the three with a cell, or the third, is what the three rules find (`direct-finds`, `later-finds`). The direct rule's cells
 -- are those of the sweeps over the position's equations, and subtraction's those of the sweeps over all that it leaves, where a layout fits, so that
 -- neither meets a contradiction. What a rule lists are cells of the frontier, so that it is on the board. Rests on the soundness of the rules. Assumes nothing.
-use mathlib.Core.Path.{_≡_, refl, sym, ap, _∙_}
+use mathlib.Core.Path.{_≡_, refl, sym, _∙_}
 use mathlib.Core.Logic.{inl, inr}
 use mathlib.Core.Bool.{Bool, true, false, not}
 use mathlib.Core.List.{List}
@@ -19,38 +19,33 @@ use Rattle.lists.proofs.Arrays.{length-pad, pad-take}
 use Rattle.lists.proofs.Rearranged.{nodup-below}
 use Rattle.lists.proofs.Among.{Among}
 use Rattle.grid.specs.Window.{neighbours, Board}
+use Rattle.grid.proofs.Places.{few-cells}
 use Rattle.grid.proofs.Neighbours.{neighbours-nodup, neighbours-few}
-use Rattle.refusals.proofs.Accepted.{few-cells}
 use Rattle.fitting.specs.Layouts.{Fits}
 use Rattle.fitting.specs.Passes.{nothing, orElse}
 use Rattle.blocks.specs.Blocks.{Block}
-use Rattle.blocks.specs.BlockSets.{allCells, blockSet, blocksOf, Small, Whole}
+use Rattle.blocks.specs.BlockSets.{allCells}
 use Rattle.blocks.specs.Places.{Slots, equationsFrom}
-use Rattle.blocks.specs.declared.BlockSet.{BlockSet}
-use Rattle.blocks.proofs.Reading.{blocks-of-set}
-use Rattle.blocks.proofs.Behind.{set-whole}
 use Rattle.sources.specs.Equations.{plainEquations, equationArrays}
 use Rattle.sources.specs.declared.equations.Equations.{Equations}
 use Rattle.sources.proofs.EquationArrays.{arrays-slots, arrays-read, plain-small, plain-few}
 use Rattle.frontier.specs.Frontier.{frontier}
-use Rattle.frontier.proofs.Coverage.{frontier-small}
-use Rattle.marks.specs.Marked.{Ready}
-use Rattle.rules.specs.Found.{Found, ruleOf}
-use Rattle.rules.specs.Direct.{sureMines, sureSafe, direct}
-use Rattle.rules.specs.Answers.{ruleAnswer, listsOf, listsIn, sweptLists}
-use Rattle.rules.specs.declared.answer.Lists.{Lists}
-use Rattle.rules.proofs.DirectLaws.{sure-mines-once, sure-safe-once}
-use Rattle.rules.proofs.Soundness.{SoundAt, listed-once, direct-sound-at, listed-below}
-use Rattle.rules.proofs.FrontierReady.{frontier-ready}
-use Rattle.rules.proofs.SweptEquations.{swept-mines, swept-safe}
+use Rattle.direct.specs.Found.{Found, ruleOf}
+use Rattle.direct.specs.Direct.{sureMines, sureSafe, direct}
+use Rattle.direct.specs.Answers.{ruleAnswer, listsOf, listsIn, sweptLists}
+use Rattle.direct.specs.declared.answer.Lists.{Lists}
+use Rattle.direct.proofs.DirectLaws.{sure-mines-once, sure-safe-once}
+use Rattle.direct.proofs.Soundness.{SoundAt, listed-once, direct-sound-at, listed-below}
+use Rattle.direct.proofs.FrontierReady.{frontier-ready}
+use Rattle.direct.proofs.SweptEquations.{swept-mines, swept-safe}
 use Rattle.subtraction.specs.Minus.{subtraction}
 use Rattle.subtraction.specs.Pairs.{minusLists}
 use Rattle.subtraction.proofs.MinusLaws.{subtraction-contradiction}
 use Rattle.subtraction.proofs.Soundness.{subtraction-sound-at}
 use Rattle.subtraction.proofs.SweptLeft.{subtraction-mines-swept, subtraction-safe-swept}
-use Rattle.solutions.specs.Enumeration.{enumerated}
-use Rattle.solutions.specs.ThreeRules.{threeRules}
-use Rattle.solutions.proofs.Completeness.{enumeration-sound-at}
+use Rattle.enumeration.specs.Enumeration.{enumerated}
+use Rattle.enumeration.specs.ThreeRules.{threeRules}
+use Rattle.enumeration.proofs.Completeness.{enumeration-sound-at}
 use Rattle.verdict.specs.Findings.{Finds, gradedFinding, foundCell, laterFinding}
 use Rattle.verdict.proofs.InPlaceAndEmpty.{SameNumbers, same-empty, empty-length}
 
@@ -241,21 +236,3 @@ module _ (edgeless : Bool) (rows columns : ℕ) (p : List ℕ) (board : Board p 
     pub equations-read : equationsFrom (equations .slots) (equations .rests) 0 (equations .len) ≡ plainEquations (neighbours edgeless rows columns) p
     unfolding equationArrays
     equations-read = rw is (arrays-read (plainEquations near p) (plain-small edgeless rows columns p board) (plain-few edgeless rows columns p board))
-
-  -- ---- the frontier as the code reads it
-
-  frontier-fits : Small (frontier (neighbours edgeless rows columns) p)
-  frontier-fits =
-      frontier-small near p (neighbours-nodup edgeless rows columns) (λ c _. neighbours-few edgeless rows columns c) (omega (arith, board .whole, few))
-
-  module _ (set : BlockSet) (is : set ≡ blockSet (frontier (neighbours edgeless rows columns) p)) where
-    -- reads as the frontier
-    pub read-as : blocksOf set ≡ frontier (neighbours edgeless rows columns) p
-    read-as = ap blocksOf is ∙ blocks-of-set (frontier near p) frontier-fits
-
-    -- and is fit for the rules
-    pub read-whole : Whole set
-    read-whole = set-whole (frontier near p) set is frontier-fits
-
-    pub read-ready : Ready (blocksOf set)
-    read-ready = rw read-as (frontier-ready near p)

@@ -7,7 +7,7 @@ use lib.Dec.{ltb, eqb}
 use lib.ListN.{length, take}
 use Rattle.lists.specs.Lists.{all, has}
 use Rattle.fitting.specs.Passes.{GradedCells, Ending}
-use Rattle.rules.specs.declared.answer.Lists.{Lists}
+use Rattle.direct.specs.declared.answer.Lists.{Lists}
 use Rattle.verdict.specs.declared.finding.Finding.{Finding}
 use Rattle.verdict.specs.declared.passes.Ending.{Ending as PassesEnd}
 

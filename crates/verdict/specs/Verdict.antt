@@ -15,7 +15,7 @@ use Rattle.refusals.specs.Refusals.{refusalNumber}
 use Rattle.refusals.specs.Tests.{boardTested, startCell}
 use Rattle.fitting.specs.Passes.{Ending, judge}
 use Rattle.fitting.specs.Demand.{Demand3, picture, opened}
-use Rattle.solutions.specs.ThreeRules.{threeRules}
+use Rattle.enumeration.specs.ThreeRules.{threeRules}
 use Rattle.verdict.specs.declared.Verdict.{Verdict}
 use Rattle.verdict.specs.declared.Verdict.the-variants.{Refused, Judged}
 

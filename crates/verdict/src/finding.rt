@@ -1,10 +1,10 @@
 // What one pass finds at a position: the direct rule's cells, else those of subtraction, else those of enumeration, with the grade of the rule that found them.
 use blocks::BlockSet;
+use direct::answer::Lists;
+use direct::answer::lists_of;
+use direct::direct::direct_cells;
+use enumeration::enumerate::enumerate_rule;
 use frontier::read_blocks;
-use rules::answer::Lists;
-use rules::answer::lists_of;
-use rules::direct::direct_cells;
-use solutions::enumerate::enumerate_rule;
 use sources::equations::read_equations;
 use subtraction::minus_cells;
 ghost use mathlib.Core.Path.{_≡_};
@@ -16,11 +16,11 @@ ghost use Rattle.fitting.specs.Layouts.{Fits};
 ghost use Rattle.blocks.specs.Blocks.{Block};
 ghost use Rattle.blocks.specs.BlockSets.{blocksOf, Whole};
 ghost use Rattle.marks.specs.Marked.{Ready};
-ghost use Rattle.rules.specs.Answers.{ruleAnswer, listsIn};
+ghost use Rattle.direct.specs.Answers.{ruleAnswer, listsIn};
 ghost use Rattle.subtraction.specs.Pairs.{minusLists};
 ghost use Rattle.groups.specs.Grouping.{Combinable};
-ghost use Rattle.solutions.specs.Enumeration.{enumerated};
-ghost use Rattle.solutions.specs.ThreeRules.{threeRules};
+ghost use Rattle.enumeration.specs.Enumeration.{enumerated};
+ghost use Rattle.enumeration.specs.ThreeRules.{threeRules};
 ghost use Rattle.verdict.specs.Findings.{Finds, gradedFinding, foundCell, laterFinding};
 
 // Two lists of cells with their counts, and a grade.

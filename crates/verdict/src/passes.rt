@@ -10,7 +10,7 @@ ghost use Prim.Native.Nat.{_<_, max};
 ghost use lib.ListN.{length, replicate};
 ghost use Rattle.fitting.specs.Boards.{Accepted};
 ghost use Rattle.fitting.specs.Passes.{allOpen, judge};
-ghost use Rattle.solutions.specs.ThreeRules.{threeRules};
+ghost use Rattle.enumeration.specs.ThreeRules.{threeRules};
 ghost use Rattle.verdict.specs.Findings.{endOf};
 
 // How the passes end.

@@ -11,7 +11,7 @@ use Rattle.refusals.specs.Refusals.{testedNumber}
 use Rattle.refusals.specs.Tests.{deductionTested}
 use Rattle.refusals.proofs.Accepted.{AcceptedDeduction, accepted-deduction}
 use Rattle.frontier.proofs.ReadFrontier.{read-whole}
-use Rattle.rules.proofs.FrontierReady.{read-ready}
+use Rattle.direct.proofs.FrontierReady.{read-ready}
 use Rattle.frontier.proofs.CombinableBlocks.{read-combinable}
 use Rattle.deductions.specs.Answers.{seen, deduction}
 use Rattle.deductions.specs.Calls.{SoundCall}
@@ -53,9 +53,9 @@ read-blocks-requires c κs = facts (c .before) .position .board
 
 run-rule-requires : tie.Need-run-rule-requires
 run-rule-requires c κs =
-    let accepted = facts (c .before .before) .position in
+    let board = facts (c .before .before) .position .board in
     let read = c .read-blocks .ensures in
-    (read-whole _ _ _ _ accepted _ read, (read-ready _ _ _ _ accepted _ read, read-combinable _ _ _ _ accepted _ read))
+    (read-whole _ _ _ _ board _ read, (read-ready _ _ _ _ board _ read, read-combinable _ _ _ _ board _ read))
 
 give-answer-requires : tie.Need-give-answer-requires
 give-answer-requires c κs =

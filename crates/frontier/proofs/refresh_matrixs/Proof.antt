@@ -3,9 +3,10 @@
 use mathlib.Core.Path.{_≡_, sym, _∙_}
 use native.Mathlib.Omega.{arith}
 use borrow.Author.Needs.{needs}
+use Rattle.grid.proofs.Places.{few-cells}
 use Rattle.refusals.specs.declared.Tested.the-variants.{Accepted}
 use Rattle.refusals.specs.Tests.{positionTested}
-use Rattle.refusals.proofs.Accepted.{few-cells, AcceptedPosition, accepted-position}
+use Rattle.refusals.proofs.Accepted.{AcceptedPosition, accepted-position}
 use Rattle.frontier.specs.Answer.{refreshMatrixs}
 use Rattle.frontier.proofs.refresh_matrixs.Statement.{statement}
 use Rattle.frontier.proofs.refresh_matrixs.Tie as tie

@@ -6,7 +6,7 @@ use mathlib.Core.Logic.{⊎-elim}
 use native.Mathlib.Omega.{arith}
 use lib.ListN.{set}
 use borrow.Author.Needs.{needs}
-use Rattle.grid.specs.declared.window.Neighbours.{Neighbours}
+use Rattle.grid.specs.declared.window.UpToEight.{UpToEight}
 use Rattle.blocks.specs.Places.{equationsFrom}
 use Rattle.blocks.proofs.Between.{slots-eight}
 use Rattle.groups.proofs.PassedEquations.{Passed, passed-none, passed-negative, passed-next}
@@ -31,7 +31,7 @@ slots-at-requires c κs = search needs
 cast-rooms : tie.Need-cast-rooms Inv-loop μ-loop
 cast-rooms c =
     let s = c .before .before .before .before in
-    omega (arith, ap (λ (n : Neighbours). n .len) (c .before .slots-at .ensures), slots-eight (s .args .slots .now) (c .before .before .before .loop .e))
+    omega (arith, ap (λ (n : UpToEight). n .len) (c .before .slots-at .ensures), slots-eight (s .args .slots .now) (c .before .before .before .loop .e))
 
 sub-rooms : tie.Need-sub-rooms Inv-loop μ-loop
 sub-rooms c = search needs
@@ -67,7 +67,7 @@ loop-again c =
     let slots = s .args .slots .now in
     let rests = s .args .rests .now in
     let few = s .pre .0 .0 .few in
-    let stored = ap (λ (n : Neighbours). set (l .rooms) (l .e - s .args .first) (n .len)) (c .before .before .before .slots-at .ensures) in
+    let stored = ap (λ (n : UpToEight). set (l .rooms) (l .e - s .args .first) (n .len)) (c .before .before .before .slots-at .ensures) in
     ⊎-elim
     (λ w. (
       rw (w .1, w .2) (passed-negative slots rests (s .args .first) (l .e) (l .inv .1) (omega arith) (l .needs) (l .rooms) (l .negative) (l .inv .0) _ stored (w .0 .taken)),

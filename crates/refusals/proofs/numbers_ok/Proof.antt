@@ -11,8 +11,7 @@ use Rattle.lists.specs.Lists.{every}
 use Rattle.lists.proofs.Tests.{every-more, every-fails}
 use Rattle.grid.specs.Window.{neighbours}
 use Rattle.refusals.specs.Tests.{numbersOk}
-use Rattle.refusals.proofs.Sides.{few-cells}
-use Rattle.grid.proofs.Places.{some-column, place-on}
+use Rattle.grid.proofs.Places.{few-cells, some-column, place-on}
 use Rattle.refusals.proofs.Numbers.{numberOk, mine-passes, number-passes, number-fails}
 use Rattle.refusals.proofs.numbers_ok.Statement.{statement}
 use Rattle.refusals.proofs.numbers_ok.Tie as tie

@@ -1,8 +1,8 @@
 -- `room_ok` meets its contract: the product of two sides of at most 32 fits, and what is returned is the definition. Assumes nothing.
 use mathlib.Core.Path.{refl}
 use native.Mathlib.Omega.{arith}
+use Rattle.grid.proofs.Places.{few-cells}
 use Rattle.refusals.specs.Tests.{roomOk}
-use Rattle.refusals.proofs.Sides.{few-cells}
 use Rattle.refusals.proofs.room_ok.Statement.{statement}
 use Rattle.refusals.proofs.room_ok.Tie as tie
 

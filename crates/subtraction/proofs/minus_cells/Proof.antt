@@ -6,7 +6,7 @@ use native.Mathlib.Omega.{arith}
 use lib.ListN.{length}
 use borrow.Author.Needs.{needs}
 use Rattle.blocks.proofs.Behind.{blocks-few}
-use Rattle.rules.proofs.WholeSets.{equations-of-all, slots-of-all}
+use Rattle.direct.proofs.WholeSets.{equations-of-all, slots-of-all}
 use Rattle.subtraction.proofs.OwnLists.{own-mines-long, own-safe-long}
 use Rattle.subtraction.proofs.MinusLists.{both-mines-fit, both-safe-fit, both-answered}
 use Rattle.subtraction.proofs.minus_cells.Statement.{statement}

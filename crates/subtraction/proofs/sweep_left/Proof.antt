@@ -2,7 +2,7 @@
 -- Assumes nothing.
 use mathlib.Core.Path.{refl, ap, _∙_}
 use native.Mathlib.Omega.{arith}
-use Rattle.rules.specs.Answers.{sweptLists}
+use Rattle.direct.specs.Answers.{sweptLists}
 use Rattle.subtraction.proofs.MinusLists.{left-few, left-arrays, left-arrays-read}
 use Rattle.subtraction.proofs.sweep_left.Statement.{statement}
 use Rattle.subtraction.proofs.sweep_left.Tie as tie

@@ -39,8 +39,8 @@ read-blocks-requires c κs = facts c .board
 put-asked-requires : tie.Need-put-asked-requires
 put-asked-requires c κs =
     let read = c .before in
-    let accepted = facts (read .before) in
-    (read-whole _ _ _ _ accepted _ (read .read-blocks .ensures), read-combinable _ _ _ _ accepted _ (read .read-blocks .ensures))
+    let board = facts (read .before) .board in
+    (read-whole _ _ _ _ board _ (read .read-blocks .ensures), read-combinable _ _ _ _ board _ (read .read-blocks .ensures))
 
 returns : tie.Need-returns
 returns c =
@@ -60,7 +60,7 @@ returns-2 c =
     let accepts = read .before in
     let a = accepts .before .before .before .before .before .args in
     let is = put .put-asked .ensures
-    ∙ ap (λ (bs : List Block). blockAsked bs (a .block) (a .table .now)) (read-frontier _ _ _ _ (facts accepts) _ (read .read-blocks .ensures))
+    ∙ ap (λ (bs : List Block). blockAsked bs (a .block) (a .table .now)) (read-frontier _ _ _ _ (facts accepts .board) _ (read .read-blocks .ensures))
     ∙ tests-accept (a .edgeless) (a .rows) (a .columns) (a .position .now) (a .block) (a .table .now) (tests accepts) in
     (is, table-call (a .edgeless) (a .rows) (a .columns) (a .position .now) (a .block) (a .table .now) _ _ is)
 

@@ -5,7 +5,7 @@ use mathlib.Core.Path.{refl}
 use native.Mathlib.Omega.{arith}
 use borrow.Author.Needs.{needs}
 use lib.ListN.{length}
-use Rattle.rules.specs.Answers.{foundIn}
+use Rattle.direct.specs.Answers.{foundIn}
 use Rattle.deductions.proofs.Handed.{held-safe-room, held-mines-room, held-lists, gives-found}
 use Rattle.deductions.proofs.answer.give_answer.Statement.{statement}
 use Rattle.deductions.proofs.answer.give_answer.Tie as tie

@@ -1,6 +1,5 @@
 -- `grid::window::low` meets its contract. Assumes nothing.
 use borrow.Author.Needs.{needs}
-use native.Mathlib.Omega.{arith}
 use Rattle.grid.proofs.Lines.{low-other, low-wrapped, low-flat}
 use Rattle.grid.proofs.window.low.Statement.{statement}
 use Rattle.grid.proofs.window.low.Tie as tie

@@ -8,7 +8,7 @@ use native.Mathlib.Omega.{arith}
 use lib.ListN.{length, take, drop, length-set}
 use Rattle.lists.specs.Lists.{has}
 use Rattle.lists.proofs.Counted.{counted-none}
-use Rattle.grid.specs.declared.window.Neighbours.{Neighbours}
+use Rattle.grid.specs.declared.window.UpToEight.{UpToEight}
 use Rattle.blocks.proofs.MarkLaws.{list-next, list-below}
 use Rattle.marks.proofs.MarkedCells.{markedWith, with-marked, with-passed, with-end}
 use Rattle.subtraction.proofs.own.mark_own.Statement.{statement}
@@ -16,7 +16,7 @@ use Rattle.subtraction.proofs.own.mark_own.Tie as tie
 use borrow.Author.Needs.{needs}
 
 -- a list lacks a cell
-abbrev lacks : Neighbours → ℕ → Bool
+abbrev lacks : UpToEight → ℕ → Bool
 lacks other c = not (has (take (other .len) (other .cells)) c)
 
 abbrev Inv-loop : tie.InvT-loop

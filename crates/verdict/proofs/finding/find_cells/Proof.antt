@@ -1,16 +1,18 @@
 -- `finding::find_cells` meets its contract: the equations are read, which are fit for the sweeps; where these find nothing the frontier is read, which is fit
--- for the other rules; and the first lists with a cell are what the three rules find. Rests on ThreeFindings and on the contracts of the calls. Assumes nothing.
+-- for the other rules; and the first lists with a cell are what the three rules find. Rests on ThreeFindings, on ReadFrontier and on the contracts of the calls. Assumes nothing.
 use mathlib.Core.Path.{_≡_, sym, ap, _∙_}
 use mathlib.Core.List.{List}
 use borrow.Author.Needs.{needs}
 use Rattle.grid.specs.Window.{neighbours}
 use Rattle.blocks.specs.Blocks.{Block}
 use Rattle.sources.specs.Equations.{plainEquations}
+use Rattle.frontier.proofs.ReadFrontier.{read-frontier, read-whole}
 use Rattle.frontier.proofs.CombinableBlocks.{frontier-combinable}
-use Rattle.rules.specs.Answers.{ruleAnswer, listsIn, sweptLists}
+use Rattle.direct.proofs.FrontierReady.{read-ready}
+use Rattle.direct.specs.Answers.{ruleAnswer, listsIn, sweptLists}
 use Rattle.subtraction.specs.Pairs.{minusLists}
-use Rattle.solutions.specs.Enumeration.{enumerated}
-use Rattle.verdict.proofs.ThreeFindings.{direct-finds, later-finds, equations-fit, equations-read, read-as, read-whole, read-ready}
+use Rattle.enumeration.specs.Enumeration.{enumerated}
+use Rattle.verdict.proofs.ThreeFindings.{direct-finds, later-finds, equations-fit, equations-read}
 use Rattle.verdict.proofs.finding.find_cells.Statement.{statement}
 use Rattle.verdict.proofs.finding.find_cells.Tie as tie
 
@@ -49,7 +51,7 @@ read-blocks-requires c κs = start (c .before .before) .pre .0
 find-in-blocks-requires : tie.Need-find-in-blocks-requires
 find-in-blocks-requires c κs =
     let s = start (c .before .before .before) in
-    let is = read-as _ _ _ _ (s .pre .0) _ (c .read-blocks .ensures) in (
+    let is = read-frontier _ _ _ _ (s .pre .0) _ (c .read-blocks .ensures) in (
       read-whole _ _ _ _ (s .pre .0) _ (c .read-blocks .ensures),
       (read-ready _ _ _ _ (s .pre .0) _ (c .read-blocks .ensures), rw is (frontier-combinable _ _ _ _ (s .pre .0))),
     )
@@ -60,7 +62,7 @@ returns-2 c =
     let asked = read .before .before in
     let d = asked .before in
     let s = start d in
-    let is = read-as _ _ _ _ (s .pre .0) _ (read .read-blocks .ensures) in
+    let is = read-frontier _ _ _ _ (s .pre .0) _ (read .read-blocks .ensures) in
     rw (c .find-in-blocks .ensures)
     (later-finds _ _ _ _ (s .pre .0) (s .pre .1 .0) (s .pre .1 .1) _ (swept d) (sym (asked .found-cell .ensures) ∙ read .before .if1 .left) _ _
     (ap minusLists is) (ap (λ (bs : List Block). listsIn (ruleAnswer (enumerated bs))) is))

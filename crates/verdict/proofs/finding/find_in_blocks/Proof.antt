@@ -2,7 +2,7 @@
 -- contracts of the rules. Assumes nothing.
 use mathlib.Core.Path.{sym, ap, _∙_}
 use borrow.Author.Needs.{needs}
-use Rattle.rules.specs.Answers.{listsIn}
+use Rattle.direct.specs.Answers.{listsIn}
 use Rattle.verdict.proofs.ThreeFindings.{takes-second, takes-third}
 use Rattle.verdict.proofs.finding.find_in_blocks.Statement.{statement}
 use Rattle.verdict.proofs.finding.find_in_blocks.Tie as tie

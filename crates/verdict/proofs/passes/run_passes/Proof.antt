@@ -7,7 +7,7 @@ use borrow.Author.Needs.{needs}
 use lib.ListN.{length, take}
 use Rattle.grid.specs.Window.{neighbours}
 use Rattle.fitting.specs.Boards.{own}
-use Rattle.solutions.specs.ThreeRules.{threeRules}
+use Rattle.enumeration.specs.ThreeRules.{threeRules}
 use Rattle.verdict.proofs.FromStart.{few, start-small, start-below, first-own, first-board, first-passes}
 use Rattle.verdict.proofs.Underway.{underway-first, ends-open, ends-last}
 use Rattle.verdict.proofs.PassesOnBoard.{OnBoard, same-cells, position-board, marked-board, few-rounds, found-nothing, found-cells}
