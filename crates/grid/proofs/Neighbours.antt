@@ -38,85 +38,78 @@ NearOn false size i j = Near i j
 abbrev span : ℕ → ℕ → ℕ
 span size i = min (i + 2) size - (i - 1)
 
--- ---- a side without an edge, of at least 3 lines
+-- ---- a side without an edge
 
+-- the line before i and the line after it, by whether i is the first or the last
+module _ (size i : ℕ) where
+  abbrev Before : Type 0
+  Before = ((i ≡ 0) × (before size i ≡ size - 1)) ⊎ ((i ≢ 0) × (before size i ≡ i - 1))
+
+  abbrev After : Type 0
+  After = ((i + 1 ≡ size) × (after size i ≡ 0)) ⊎ ((i + 1 ≢ size) × (after size i ≡ i + 1))
+
+  before-cases : Before
+  before-cases = go (decided (eqb i 0))
+    where
+      go : Decided (eqb i 0) → Before
+      go (inl e) = inl (eqb-true i 0 e, rw e)
+      go (inr e) = inr (eqb-false i 0 e, rw e)
+
+  after-cases : After
+  after-cases = go (decided (eqb (i + 1) size))
+    where
+      go : Decided (eqb (i + 1) size) → After
+      go (inl e) = inl (eqb-true (i + 1) size e, rw e)
+      go (inr e) = inr (eqb-false (i + 1) size e, rw e)
+
+-- of at least 3 lines: each is the other's other way round, and the three lines are different lines of the side
 module _ (size i : ℕ) (wide : 3 ≤ size) (on : i < size) where
-  after-below : after size i < size
-  after-below = go (decided (eqb (i + 1) size))
-    where
-      go : Decided (eqb (i + 1) size) → after size i < size
-      go (inl e) = rw e (omega arith)
-      go (inr e) = rw e (let n : i + 1 ≢ size = eqb-false (i + 1) size e in omega arith)
-
-  before-below : before size i < size
-  before-below = go (decided (eqb i 0))
-    where
-      go : Decided (eqb i 0) → before size i < size
-      go (inl e) = rw e (omega arith)
-      go (inr e) = rw e (omega arith)
-
-  -- each is the other's other way round
   after-before : after size (before size i) ≡ i
-  after-before = go (decided (eqb i 0))
+  after-before = go (before-cases size i) (after-cases size (before size i))
     where
-      go : Decided (eqb i 0) → after size (before size i) ≡ i
-      go (inl e) = let z : i ≡ 0 = eqb-true i 0 e in let n : (size - 1) + 1 ≡ size = omega arith in rw (e, eq-eqb ((size - 1) + 1) size n) (sym z)
-      go (inr e) =
-          let z : i ≢ 0 = eqb-false i 0 e in
-          let m : (i - 1) + 1 ≡ i = omega arith in
-          rw (e, ne-eqb ((i - 1) + 1) size (omega arith)) m
+      go : Before size i → After size (before size i) → after size (before size i) ≡ i
+      go (inl (z, e)) (inl (y, f)) = omega arith
+      go (inl (z, e)) (inr (y, f)) = omega arith
+      go (inr (z, e)) (inl (y, f)) = omega arith
+      go (inr (z, e)) (inr (y, f)) = omega arith
 
   before-after : before size (after size i) ≡ i
-  before-after = go (decided (eqb (i + 1) size))
+  before-after = go (after-cases size i) (before-cases size (after size i))
     where
-      go : Decided (eqb (i + 1) size) → before size (after size i) ≡ i
-      go (inl e) = let z : i + 1 ≡ size = eqb-true (i + 1) size e in rw e (omega arith)
-      go (inr e) = rw (e, ne-eqb (i + 1) 0 (omega arith)) (omega arith)
+      go : After size i → Before size (after size i) → before size (after size i) ≡ i
+      go (inl (z, e)) (inl (y, f)) = omega arith
+      go (inl (z, e)) (inr (y, f)) = omega arith
+      go (inr (z, e)) (inl (y, f)) = omega arith
+      go (inr (z, e)) (inr (y, f)) = omega arith
 
-  -- the three lines are different
-  before-other : before size i ≢ i
-  before-other = go (decided (eqb i 0))
+  record Apart : Type 0 where
+    before-below : before size i < size
+    after-below : after size i < size
+    before-other : before size i ≢ i
+    after-other : i ≢ after size i
+    before-after-other : before size i ≢ after size i
+
+  lines-apart : Apart
+  lines-apart = go (before-cases size i) (after-cases size i)
     where
-      go : Decided (eqb i 0) → before size i ≢ i
-      go (inl e) = let z : i ≡ 0 = eqb-true i 0 e in rw e (λ w. omega arith)
-      go (inr e) = let z : i ≢ 0 = eqb-false i 0 e in rw e (λ w. omega arith)
+      go : Before size i → After size i → Apart
+      go (inl (z, e)) (inl (y, f)) = absurd (omega arith)
+      go (inl (z, e)) (inr (y, f)) = record { before-below = omega arith; after-below = omega arith; before-other = λ w. omega arith; after-other = λ w. omega arith; before-after-other = λ w. omega arith }
+      go (inr (z, e)) (inl (y, f)) = record { before-below = omega arith; after-below = omega arith; before-other = λ w. omega arith; after-other = λ w. omega arith; before-after-other = λ w. omega arith }
+      go (inr (z, e)) (inr (y, f)) = record { before-below = omega arith; after-below = omega arith; before-other = λ w. omega arith; after-other = λ w. omega arith; before-after-other = λ w. omega arith }
 
-  after-other : after size i ≢ i
-  after-other = go (decided (eqb (i + 1) size))
-    where
-      go : Decided (eqb (i + 1) size) → after size i ≢ i
-      go (inl e) = let z : i + 1 ≡ size = eqb-true (i + 1) size e in rw e (λ w. omega arith)
-      go (inr e) = rw e (λ w. omega arith)
+-- what stands around i: nothing, or the three lines
+abbrev Wraps : ℕ → ℕ → Type 0
+Wraps size i = (around true size i ≡ []) ⊎ (((3 ≤ size) × (i < size)) × (around true size i ≡ before size i ∷ i ∷ after size i ∷ []))
 
-  before-not-after : before size i ≢ after size i
-  before-not-after = go (decided (eqb i 0)) (decided (eqb (i + 1) size))
-    where
-      go : Decided (eqb i 0) → Decided (eqb (i + 1) size) → before size i ≢ after size i
-      go (inl a) (inl b) = let z : i ≡ 0 = eqb-true i 0 a in let y : i + 1 ≡ size = eqb-true (i + 1) size b in absurd (omega arith)
-      go (inl a) (inr b) = let z : i ≡ 0 = eqb-true i 0 a in rw (a, b) (λ w. omega arith)
-      go (inr a) (inl b) = let z : i ≢ 0 = eqb-false i 0 a in let y : i + 1 ≡ size = eqb-true (i + 1) size b in rw (a, b) (λ w. omega arith)
-      go (inr a) (inr b) = rw (a, b) (λ w. omega arith)
-
-  abbrev pub three : List ℕ
-  three = before size i ∷ i ∷ after size i ∷ []
-
-  three-nodup : nodup three ≡ true
-  three-nodup = rw (ne-eqb (before size i) i before-other, ne-eqb (before size i) (after size i) before-not-after, ne-eqb i (after size i) (λ w. after-other (sym w)))
-
--- what stands around i, case by case
-module _ (size i : ℕ) where
-  -- the side is long enough and i is on it
-  abbrev Wraps : Type 0
-  Wraps = (3 ≤ size) × (i < size)
-
-  wraps-cases : (around true size i ≡ []) ⊎ (Wraps × (around true size i ≡ before size i ∷ i ∷ after size i ∷ []))
-  unfolding around
-  wraps-cases = go (decided (leb 3 size)) (decided (ltb i size))
-    where
-      go : Decided (leb 3 size) → Decided (ltb i size) → (around true size i ≡ []) ⊎ (Wraps × (around true size i ≡ before size i ∷ i ∷ after size i ∷ []))
-      go (inr a) b = inl (rw a)
-      go (inl a) (inr b) = inl (rw (a, b))
-      go (inl a) (inl b) = inr ((leb-true 3 size a, ltb-true i size b), rw (a, b))
+wraps-cases : (size i : ℕ) → Wraps size i
+unfolding around
+wraps-cases size i = go (decided (leb 3 size)) (decided (ltb i size))
+  where
+    go : Decided (leb 3 size) → Decided (ltb i size) → Wraps size i
+    go (inr a) b = inl (rw a)
+    go (inl a) (inr b) = inl (rw (a, b))
+    go (inl a) (inl b) = inr ((leb-true 3 size a, ltb-true i size b), rw (a, b))
 
 three-cases : (a b c x : ℕ) → has (a ∷ b ∷ c ∷ []) x ≡ true → (x ≡ a) ⊎ ((x ≡ b) ⊎ (x ≡ c))
 three-cases a b c x h = go (or-cases (eqb x a) (eqb x b || (eqb x c || false)) h)
@@ -140,57 +133,66 @@ around-in false size i x h =
     (omega arith, record { after = omega arith; before = omega arith })
 around-in true size i x h = go (wraps-cases size i)
   where
-    go : (around true size i ≡ []) ⊎ (((3 ≤ size) × (i < size)) × (around true size i ≡ before size i ∷ i ∷ after size i ∷ [])) → (x < size) × NearOn true size i x
+    go : Wraps size i → (x < size) × NearOn true size i x
     go (inl e) = clash false (rw e at h) refl
     go (inr ((w, on), e)) = which (three-cases (before size i) i (after size i) x (rw e at h))
       where
         which : (x ≡ before size i) ⊎ ((x ≡ i) ⊎ (x ≡ after size i)) → (x < size) × NearOn true size i x
-        which (inl y) = (rw y (before-below size i w on), inr (inr (rw y (sym (after-before size i w on)))))
+        which (inl y) = (rw y (lines-apart size i w on .before-below), inr (inr (rw y (sym (after-before size i w on)))))
         which (inr (inl y)) = (rw y on, inl y)
-        which (inr (inr y)) = (rw y (after-below size i w on), inr (inl y))
+        which (inr (inr y)) = (rw y (lines-apart size i w on .after-below), inr (inl y))
+
+-- and every line near i is around it; without an edge on a side of at least 3 lines, of which i is one
+pub in-around : (edgeless : Bool) (size i x : ℕ) → (edgeless ≡ true → (3 ≤ size) × (i < size)) → x < size → NearOn edgeless size i x → has (around edgeless size i) x ≡ true
+unfolding around
+in-around false size i x wraps below near = in-range (i - 1) (span size i) x (omega (arith, near .after)) (omega (arith, near .before))
+in-around true size i x wraps below near = let (w, on) = wraps refl in rw (le-leb 3 size w, lt-ltb i size on) (go w near)
+  where
+    third : (s t : Bool) → (s || (t || (true || false))) ≡ true
+    third true t = refl
+    third false true = refl
+    third false false = refl
+
+    go : 3 ≤ size → NearOn true size i x → has (before size i ∷ i ∷ after size i ∷ []) x ≡ true
+    go w (inl y) = rw (eq-eqb x i y) (or-right (eqb x (before size i)) (true || (eqb x (after size i) || false)) refl)
+    go w (inr (inl y)) = rw (eq-eqb x (after size i) y) (third (eqb x (before size i)) (eqb x i))
+    go w (inr (inr y)) = rw (eq-eqb x (before size i) (rw y (sym (before-after size x w below))))
 
 -- a line around i has i around it
 pub around-mutual : (edgeless : Bool) (size i x : ℕ) → i < size → has (around edgeless size i) x ≡ true → has (around edgeless size x) i ≡ true
-unfolding around
-around-mutual false size i x on h =
-    let (below, near) = around-in false size i x h in
-    in-range (x - 1) (span size x) i (omega (arith, near .before)) (omega (arith, near .after))
-around-mutual true size i x on h = go (wraps-cases size i) (around-in true size i x h)
+around-mutual edgeless size i x on h =
+    let (below, near) = around-in edgeless size i x h in in-around edgeless size x i (λ e. (long e, below)) on (turned edgeless near)
   where
-    here : 3 ≤ size → x < size → (has (before size x ∷ x ∷ after size x ∷ []) i ≡ true) → has (around true size x) i ≡ true
-    here w below e = rw (le-leb 3 size w, lt-ltb x size below) e
+    long : edgeless ≡ true → 3 ≤ size
+    long e = go (wraps-cases size i)
+      where
+        go : Wraps size i → 3 ≤ size
+        go (inl none) = clash false (rw (e, none) at h) refl
+        go (inr ((w, _), _)) = w
 
-    go : (around true size i ≡ []) ⊎ (((3 ≤ size) × (i < size)) × (around true size i ≡ before size i ∷ i ∷ after size i ∷ [])) → (x < size) × NearOn true size i x
-        → has (around true size x) i ≡ true
-    go (inl e) k = clash false (rw e at h) refl
-    go (inr ((w, _), e)) (below, inl y) = here w below (rw (eq-eqb i x (sym y)) (or-true (eqb i (before size x))))
-      where
-        or-true : (t : Bool) → (t || true) ≡ true
-        or-true true = refl
-        or-true false = refl
-    go (inr ((w, _), e)) (below, inr (inl y)) = here w below (rw (eq-eqb i (before size x) (rw y (sym (before-after size i w on)))))
-    go (inr ((w, _), e)) (below, inr (inr y)) = here w below (rw (eq-eqb i (after size x) y) (or-last (eqb i (before size x)) (eqb i x)))
-      where
-        or-last : (s t : Bool) → (s || (t || (true || false))) ≡ true
-        or-last true t = refl
-        or-last false true = refl
-        or-last false false = refl
+    turned : (k : Bool) → NearOn k size i x → NearOn k size x i
+    turned false n = record { after = n .before; before = n .after }
+    turned true (inl y) = inl (sym y)
+    turned true (inr (inl y)) = inr (inr y)
+    turned true (inr (inr y)) = inr (inl y)
 
 around-nodup : (edgeless : Bool) (size i : ℕ) → nodup (around edgeless size i) ≡ true
 unfolding around
 around-nodup false size i = range-nodup (i - 1) (span size i)
 around-nodup true size i = go (wraps-cases size i)
   where
-    go : (around true size i ≡ []) ⊎ (((3 ≤ size) × (i < size)) × (around true size i ≡ before size i ∷ i ∷ after size i ∷ [])) → nodup (around true size i) ≡ true
+    go : Wraps size i → nodup (around true size i) ≡ true
     go (inl e) = rw e
-    go (inr ((w, on), e)) = rw e (three-nodup size i w on)
+    go (inr ((w, on), e)) =
+        let apart = lines-apart size i w on in
+        rw (e, ne-eqb (before size i) i (apart .before-other), ne-eqb (before size i) (after size i) (apart .before-after-other), ne-eqb i (after size i) (apart .after-other))
 
 around-few : (edgeless : Bool) (size i : ℕ) → length (around edgeless size i) ≤ 3
 unfolding around
 around-few false size i = rw length-range (omega arith)
 around-few true size i = go (wraps-cases size i)
   where
-    go : (around true size i ≡ []) ⊎ (((3 ≤ size) × (i < size)) × (around true size i ≡ before size i ∷ i ∷ after size i ∷ [])) → length (around true size i) ≤ 3
+    go : Wraps size i → length (around true size i) ≤ 3
     go (inl e) = rw e (omega arith)
     go (inr (w, e)) = rw e (omega arith)
 
@@ -346,6 +348,17 @@ module _ (edgeless : Bool) (rows columns c : ℕ) where
       let (at-row, at-column) = placed d (in-window d h) in
       rw div-add-mod' at (digits-lt (at-row .0) (at-column .0))
 
+-- and every cell that touches is a neighbour; without an edge on a board of at least 3 rows and columns, of which c is a cell
+pub touch-neighbours : (edgeless : Bool) (rows columns c d : ℕ) → (edgeless ≡ true → (3 ≤ rows) × (3 ≤ columns) × (c < rows * columns)) → 0 < columns
+    → Touch edgeless rows columns c d → has (neighbours edgeless rows columns c) d ≡ true
+touch-neighbours edgeless rows columns c d wraps p t =
+    neighbours-has edgeless rows columns c d
+    ∙ rw (
+      ne-eqb d c (t .other),
+      in-around edgeless rows (c / columns) (d / columns) (λ e. (wraps e .0, div-lt-iff-lt-mul p .1 (wraps e .2))) (t .on-board) (t .near-rows),
+      in-around edgeless columns (c % columns) (d % columns) (λ e. (wraps e .1, mod-lt c p)) (mod-lt d p) (t .near-columns),
+    )
+
 pub neighbours-mutual : (edgeless : Bool) (rows columns c d : ℕ) → c < rows * columns → has (neighbours edgeless rows columns c) d ≡ true
     → has (neighbours edgeless rows columns d) c ≡ true
 neighbours-mutual edgeless rows columns c d l h =
@@ -373,8 +386,7 @@ one-or-own false size i = go (decLt i size)
     go (no off) = inl (rw length-range (omega (arith, off)))
 one-or-own true size i = go (wraps-cases size i)
   where
-    go : (around true size i ≡ []) ⊎ (((3 ≤ size) × (i < size)) × (around true size i ≡ before size i ∷ i ∷ after size i ∷ []))
-        → (length (around true size i) ≤ 1) ⊎ (has (around true size i) i ≡ true)
+    go : Wraps size i → (length (around true size i) ≤ 1) ⊎ (has (around true size i) i ≡ true)
     go (inl e) = inl (rw e (omega arith))
     go (inr (w, e)) = inr (rw (e, eq-eqb i i refl) (or-right (eqb i (before size i)) (true || (eqb i (after size i) || false)) refl))
 

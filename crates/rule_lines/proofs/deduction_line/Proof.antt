@@ -86,7 +86,7 @@ slice-aggregate-put-deduction-3 c = search needs
 put-deduction-requires : tie.Need-put-deduction-requires
 put-deduction-requires c κs =
     let call = c .before .before .before .before .before .before .before in
-    rw (front call) (rw (call .deduce .ensures .0) (call-readable (read call .before .before .before .args .rule) _ _ _ (replicate 1024 0) (replicate 1024 0)))
+    rw (front call) (rw (call .deduce .ensures .0) (call-readable (read call .before .before .before .args .rule) _ _ _ _ (replicate 1024 0) (replicate 1024 0)))
 
 same-length-2 : tie.Need-same-length-2
 same-length-2 c = search needs

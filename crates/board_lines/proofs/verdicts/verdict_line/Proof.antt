@@ -32,7 +32,7 @@ shown c = c .is-solvable .last .1 .1 .1 .1 .1 .1 .0
 
 -- it is as long as the board has cells
 same-cells : (c : tie.After-is-solvable) → length (shown c) ≡ board (read c) .len
-same-cells c = c .is-solvable .kept .1 .1 .1 .1 .1 .0 ∙ zeros-long (board (read c) .len) (fits (read c) .1)
+same-cells c = c .is-solvable .kept .1 .1 .1 .1 .1 .1 .0 ∙ zeros-long (board (read c) .len) (fits (read c) .1)
 
 -- so it is what stands in the place of the zeros that were lent
 front : (c : tie.After-is-solvable) → take (board (read c) .len) (shown c ++ drop (board (read c) .len) zeros) ≡ shown c
