@@ -1,6 +1,6 @@
--- Which cells the neighbours of a cell are: exactly those that touch it (`neighbours-touch`), each on the board, in reading order, none twice, at most
--- eight, and mutual. The idea: a cell's number tells its row and its column, so that a cell stands in a block of rows and columns where its row stands
--- in the one list and its column in the other. Rests on the laws of `has` and of rising lists. Assumes nothing.
+-- Which cells the neighbours of a cell are, on a board with an edge and on one without: exactly those that touch it (`neighbours-touch`, `touch-neighbours`), each on
+-- the board, none twice, at most eight, and mutual. The idea: a cell's number tells its row and its column, so that a cell stands in a block of rows and columns
+-- where its row stands in the one list and its column in the other. Rests on the laws of `has` and of ranges. Assumes nothing.
 use mathlib.Core.Path.{_≡_, refl, sym, ap, _∙_}
 use mathlib.Core.Logic.{_⊎_, inl, inr, _≢_}
 use mathlib.Core.Bool.{Bool, true, false, not, _&&_, _||_}

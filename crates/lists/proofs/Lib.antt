@@ -5,7 +5,6 @@ pub mod Counts
 pub mod Elements
 pub mod All
 pub mod FirstPlaces
-pub mod Rising
 pub mod Rearranged
 pub mod Unions
 pub mod AddNew

@@ -1,5 +1,6 @@
 // The format of board records. A record is a mark of two bytes, then rows, columns, start row, start column, a byte each, and the cells row by row. What a part of the
 // input is that begins where a record should, is decided here; by which line it is answered, in `record_lines`.
+use grid::window::wide_byte;
 use refusals::Refusal;
 ghost use mathlib.Core.Path.{_≡_};
 ghost use Prim.Native.Nat.{_≤_};
@@ -21,13 +22,6 @@ pub enum Record {
     Damaged(Refusal),
     // A whole record: its mark, rows, columns, start row, start column.
     Whole(BoardMark, usize, usize, usize, usize),
-}
-
-// A byte, as wide as a number.
-fn wide_byte(byte: u8) -> usize
-    ensures { λ r. ⌜ r ≡ byte ⌝ }
-{
-    byte as usize
 }
 
 // How many bytes a record has in all, by its first six; six where there are fewer.

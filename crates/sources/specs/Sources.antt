@@ -9,7 +9,7 @@ use Rattle.lists.specs.Lists.{range, keep, empty, meets}
 use Rattle.grid.specs.Cells.{shows}
 use Rattle.fitting.specs.Equations.{isClosed}
 
--- the closed neighbours of a cell, in reading order
+-- the closed neighbours of a cell, in the window's order
 abbrev pub closedBeside : (ℕ → List ℕ) → List ℕ → ℕ → List ℕ
 closedBeside near p c = keep (isClosed p) (near c)
 

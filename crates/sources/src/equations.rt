@@ -1,4 +1,4 @@
-// The equations of a position alone, in the order of their sources: no block grows, and the cells of an equation stay in reading order. The direct rule
+// The equations of a position alone, in the order of their sources: no block grows, and the cells of an equation stay in the window's order. The direct rule
 // needs no more, since what it finds depends neither on blocks nor on an order.
 use super::read_sources;
 use blocks::put_slots;

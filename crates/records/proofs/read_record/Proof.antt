@@ -84,7 +84,7 @@ returns-5 c =
     let long = third .before .before in
     let past-mark = long .before .before in
     let whole = record-whole (input (past-mark .before)) (omega arith) (known past-mark) (omega (arith, long .if4 .left, long .before .record-length .ensures .0)) in
-    rw (past-mark .before .before .board-mark .ensures, third .wide-byte .ensures, c .before .before .before .before .wide-byte2 .ensures, c .before .before .wide-byte3 .ensures, c .wide-byte4 .ensures) whole
+    rw (past-mark .before .before .board-mark .ensures, third .wide-byte .ensures .0, c .before .before .before .before .wide-byte2 .ensures .0, c .before .before .wide-byte3 .ensures .0, c .wide-byte4 .ensures .0) whole
 
 pub read-record-spec : {M : Type 1} → statement M
 read-record-spec =

@@ -10,8 +10,7 @@ use Rattle.records.proofs.record_length.Tie as tie
 product : (c : tie.After-wide-byte2) → c .before .before .wide-byte .result * c .wide-byte2 .result ≤ 65025
 product c =
     bytes-product _ _
-    (omega (arith, c .before .before .wide-byte .ensures, c .before .before .before .shared-slice-known2 .given 2))
-    (omega (arith, c .wide-byte2 .ensures, c .before .shared-slice-known3 .given 3))
+    (omega (arith, c .before .before .wide-byte .ensures .1)) (omega (arith, c .wide-byte2 .ensures .1))
 
 returns : tie.Need-returns
 returns c = (length-unknown _ (c .if1 .taken), omega arith)
@@ -38,7 +37,7 @@ returns-2 : tie.Need-returns-2
 returns-2 c =
     let s = c .before .before .before .before .before .before in
     let e = length-known (s .args .head .now) (c .before .before .before .before .if1 .left) in
-    (rw (c .before .before .wide-byte .ensures, c .wide-byte2 .ensures) e, omega (arith, product c))
+    (rw (c .before .before .wide-byte .ensures .0, c .wide-byte2 .ensures .0) e, omega (arith, product c))
 
 pub record-length-spec : {M : Type 1} → statement M
 record-length-spec =
