@@ -6,20 +6,21 @@ use mathlib.Core.Logic.{inl, inr}
 use mathlib.Core.Bool.{true, false}
 use mathlib.Core.List.{List, []}
 use Prim.Native.Nat.{ℕ, _≤_}
-use native.Mathlib.Omega.{arith}
 use lib.Dec.{ltb}
-use lib.ListN.{length, take}
+use lib.ListN.{length}
 use lib.Seq.{sets}
 use Rattle.lists.specs.Lists.{all}
 use Rattle.lists.proofs.Tests.{Decided, decided}
-use Rattle.lists.proofs.Arrays.{length-pad, pad-take}
+use Rattle.lists.proofs.Arrays.{pad-take}
 use Rattle.refusals.specs.declared.Refusal.the-variants.{Contradiction}
 use Rattle.refusals.specs.declared.Tested.{Tested}
 use Rattle.refusals.specs.declared.Tested.the-variants.{Accepted, Refused}
 use Rattle.blocks.specs.BlockSets.{blockSet, Small, Whole}
 use Rattle.blocks.specs.declared.BlockSet.{BlockSet}
 use Rattle.blocks.proofs.Reading.{blocks-of-set}
+use Rattle.marks.specs.CellLists.{cellList}
 use Rattle.marks.specs.Written.{written}
+use Rattle.marks.proofs.HeldLists.{list-held, cell-list-below}
 use Rattle.marks.proofs.WrittenCells.{written-none}
 use Rattle.direct.specs.Found.{Found, contradicted}
 use Rattle.direct.specs.Answers.{ruleAnswer, foundIn}
@@ -64,14 +65,14 @@ same-seen f g p s m e = rw (e .same-contradiction, e .same-safe, e .same-mines, 
 
 module _ (f : Found) (r : RuleAnswer) (is : r ≡ ruleAnswer f) where
   -- holds its safe cells
-  struct-safe : foundIn r .safe ≡ f .safe
-  unfolding foundIn ruleAnswer
-  struct-safe = ap (λ (x : RuleAnswer). take (x .«safe_count») (x .safe)) is ∙ pad-take 1024 0 (f .safe)
+  struct-safe : r .safe ≡ cellList (f .safe)
+  unfolding ruleAnswer
+  struct-safe = ap (λ (x : RuleAnswer). x .safe) is
 
   -- and its mines
-  struct-mines : foundIn r .mines ≡ f .mines
-  unfolding foundIn ruleAnswer
-  struct-mines = ap (λ (x : RuleAnswer). take (x .«mine_count») (x .mines)) is ∙ pad-take 1024 0 (f .mines)
+  struct-mines : r .mines ≡ cellList (f .mines)
+  unfolding ruleAnswer
+  struct-mines = ap (λ (x : RuleAnswer). x .mines) is
 
   -- and blocks that make the same struct, where its block set is whole
   struct-left : Whole (r .left) → blockSet (foundIn r .left) ≡ blockSet (f .left)
@@ -83,8 +84,8 @@ module _ (f : Found) (r : RuleAnswer) (is : r ≡ ruleAnswer f) where
   unfolding foundIn ruleAnswer
   struct-found whole = record {
     same-contradiction = ap (λ (x : RuleAnswer). x .contradiction) is;
-    same-safe = struct-safe;
-    same-mines = struct-mines;
+    same-safe = list-held (r .safe) (f .safe) struct-safe;
+    same-mines = list-held (r .mines) (f .mines) struct-mines;
     same-left = struct-left whole;
   }
 
@@ -100,10 +101,8 @@ module _ (f : Found) (r : RuleAnswer) (is : r ≡ ruleAnswer f) where
     alone = λ e. is ∙ ap ruleAnswer (alone (sym (ap (λ (x : RuleAnswer). x .contradiction) is) ∙ e));
     room-safe = rw struct-safe room-safe;
     room-mines = rw struct-mines room-mines;
-    few-safe = rw struct-safe few-safe;
-    few-mines = rw struct-mines few-mines;
-    safe-below = rw struct-safe safe-below;
-    mines-below = rw struct-mines mines-below;
+    safe-below = cell-list-below n (r .safe) (f .safe) struct-safe few-safe safe-below;
+    mines-below = cell-list-below n (r .mines) (f .mines) struct-mines few-mines mines-below;
   }
 
 -- of blocks that fit the struct holds the very answer
@@ -113,43 +112,15 @@ found-in-answer f small = rw (pad-take 1024 0 (f .safe), pad-take 1024 0 (f .min
 
 -- ---- a struct that is handed to a caller
 
--- what the functions that store and write its lists ask: arrays of 1,024 entries, counts within them, cells below n
-pub record ListsBelow (r : RuleAnswer) (n : ℕ) : Type 0 where
-  pub safe-long : length (r .safe) ≡ 1024
-  pub mines-long : length (r .mines) ≡ 1024
-  pub safe-few : r .«safe_count» ≤ 1024
-  pub mines-few : r .«mine_count» ≤ 1024
-  pub safe-below : all (λ c. ltb c n) (take (r .«safe_count») (r .safe)) ≡ true
-  pub mines-below : all (λ c. ltb c n) (take (r .«mine_count») (r .mines)) ≡ true
-
 module _ {r : RuleAnswer} {n s m : ℕ} (h : Held r n s m) where
   -- its counts are the lengths of its lists
-  held-safe-count : r .«safe_count» ≡ length (foundIn r .safe)
+  held-safe-count : r .safe .count ≡ length (foundIn r .safe)
   unfolding ruleAnswer
-  held-safe-count = ap (λ (x : RuleAnswer). x .«safe_count») (h .is)
+  held-safe-count = ap (λ (x : RuleAnswer). x .safe .count) (h .is)
 
-  held-mine-count : r .«mine_count» ≡ length (foundIn r .mines)
+  held-mine-count : r .mines .count ≡ length (foundIn r .mines)
   unfolding ruleAnswer
-  held-mine-count = ap (λ (x : RuleAnswer). x .«mine_count») (h .is)
-
-  -- which there is room for
-  pub held-safe-room : r .«safe_count» ≤ s
-  held-safe-room = omega (arith, held-safe-count, h .room-safe)
-
-  pub held-mines-room : r .«mine_count» ≤ m
-  held-mines-room = omega (arith, held-mine-count, h .room-mines)
-
-  -- and all is so that is asked of them, of any position with n cells
-  pub held-lists : (k : ℕ) → k ≡ n → ListsBelow r k
-  unfolding ruleAnswer foundIn
-  held-lists k e = record {
-    safe-long = ap (λ (x : RuleAnswer). length (x .safe)) (h .is) ∙ length-pad 1024 0 (foundIn r .safe) (h .few-safe);
-    mines-long = ap (λ (x : RuleAnswer). length (x .mines)) (h .is) ∙ length-pad 1024 0 (foundIn r .mines) (h .few-mines);
-    safe-few = omega (arith, held-safe-count, h .few-safe);
-    mines-few = omega (arith, held-mine-count, h .few-mines);
-    safe-below = rw e (h .safe-below);
-    mines-below = rw e (h .mines-below);
-  }
+  held-mine-count = ap (λ (x : RuleAnswer). x .mines .count) (h .is)
 
   -- its block set is that of its blocks
   held-left : r .left ≡ blockSet (foundIn r .left)
@@ -158,12 +129,12 @@ module _ {r : RuleAnswer} {n s m : ℕ} (h : Held r n s m) where
 
   -- a contradiction is handed on by its name: its lists are empty, so that nothing is stored or written
   gives-contradiction : (p s′ m′ : List ℕ) → r .contradiction ≡ true
-      → seen (record { tested = Refused Contradiction; safe = r .«safe_count»; mines = r .«mine_count»; blocks = r .left })
+      → seen (record { tested = Refused Contradiction; safe = r .safe .count; mines = r .mines .count; blocks = r .left })
       (written 11 (foundIn r .mines) (written 12 (foundIn r .safe) p)) (sets s′ 0 (foundIn r .safe)) (sets m′ 0 (foundIn r .mines))
       ≡ afterFound (foundIn r) p s′ m′
   unfolding foundIn ruleAnswer refusedAnswer
   gives-contradiction p s′ m′ e =
-      let shown : RuleAnswer → Seen = λ x. seen (record { tested = Refused Contradiction; safe = x .«safe_count»; mines = x .«mine_count»; blocks = x .left })
+      let shown : RuleAnswer → Seen = λ x. seen (record { tested = Refused Contradiction; safe = x .safe .count; mines = x .mines .count; blocks = x .left })
       (written 11 (foundIn x .mines) (written 12 (foundIn x .safe) p)) (sets s′ 0 (foundIn x .safe)) (sets m′ 0 (foundIn x .mines)) in
       ap shown (h .alone e)
       ∙ ap (λ (q : List ℕ). seen (refusedAnswer Contradiction) q s′ m′) (written-none 11 (written 12 [] p) ∙ written-none 12 p)
@@ -171,26 +142,26 @@ module _ {r : RuleAnswer} {n s m : ℕ} (h : Held r n s m) where
 
   -- and lists by storing and marking them
   gives-lists : (p s′ m′ : List ℕ) → r .contradiction ≡ false
-      → seen (record { tested = Accepted; safe = r .«safe_count»; mines = r .«mine_count»; blocks = r .left })
+      → seen (record { tested = Accepted; safe = r .safe .count; mines = r .mines .count; blocks = r .left })
       (written 11 (foundIn r .mines) (written 12 (foundIn r .safe) p)) (sets s′ 0 (foundIn r .safe)) (sets m′ 0 (foundIn r .mines))
       ≡ afterFound (foundIn r) p s′ m′
   unfolding foundIn
   gives-lists p s′ m′ e =
       let shown : DeductionAnswer → Seen = λ a. seen a (written 11 (foundIn r .mines) (written 12 (foundIn r .safe) p)) (sets s′ 0 (foundIn r .safe)) (sets m′ 0 (foundIn r .mines)) in
-      ap (λ (k : ℕ). shown (record { tested = Accepted; safe = k; mines = r .«mine_count»; blocks = r .left })) held-safe-count
+      ap (λ (k : ℕ). shown (record { tested = Accepted; safe = k; mines = r .mines .count; blocks = r .left })) held-safe-count
       ∙ ap (λ (k : ℕ). shown (record { tested = Accepted; safe = length (foundIn r .safe); mines = k; blocks = r .left })) held-mine-count
       ∙ ap (λ (b : BlockSet). shown (record { tested = Accepted; safe = length (foundIn r .safe); mines = length (foundIn r .mines); blocks = b })) held-left
       ∙ sym (after-lists (foundIn r) p s′ m′ e)
 
   -- so, with the contradiction or its absence told, the caller sees what is to be seen
   pub gives-found : (p s′ m′ : List ℕ) (t : Tested) → t ≡ toldBy (r .contradiction)
-      → seen (record { tested = t; safe = r .«safe_count»; mines = r .«mine_count»; blocks = r .left })
-      (written 11 (foundIn r .mines) (written 12 (foundIn r .safe) p)) (sets s′ 0 (foundIn r .safe)) (sets m′ 0 (foundIn r .mines))
-      ≡ afterFound (foundIn r) p s′ m′
-  gives-found p s′ m′ t told = go (decided (r .contradiction))
+      → (p″ : List ℕ) → p″ ≡ written 11 (foundIn r .mines) (written 12 (foundIn r .safe) p)
+      → (s″ : List ℕ) → s″ ≡ sets s′ 0 (foundIn r .safe) → (m″ : List ℕ) → m″ ≡ sets m′ 0 (foundIn r .mines)
+      → seen (record { tested = t; safe = r .safe .count; mines = r .mines .count; blocks = r .left }) p″ s″ m″ ≡ afterFound (foundIn r) p s′ m′
+  gives-found p s′ m′ t told p″ marked s″ safe-stored m″ mines-stored = rw (marked, safe-stored, mines-stored) (go (decided (r .contradiction)))
     where
       shown : Tested → Seen
-      shown x = seen (record { tested = x; safe = r .«safe_count»; mines = r .«mine_count»; blocks = r .left })
+      shown x = seen (record { tested = x; safe = r .safe .count; mines = r .mines .count; blocks = r .left })
           (written 11 (foundIn r .mines) (written 12 (foundIn r .safe) p)) (sets s′ 0 (foundIn r .safe)) (sets m′ 0 (foundIn r .mines))
 
       go : Decided (r .contradiction) → shown t ≡ afterFound (foundIn r) p s′ m′

@@ -3,10 +3,8 @@ use mathlib.Core.Path.{_≡_}
 use mathlib.Core.Bool.{Bool, true, cond}
 use mathlib.Core.List.{List, []}
 use Prim.Native.Nat.{ℕ, _≤_}
-use lib.Dec.{ltb}
 use lib.ListN.{length}
 use lib.Seq.{sets}
-use Rattle.lists.specs.Lists.{all}
 use Rattle.grid.specs.Window.{neighbours}
 use Rattle.refusals.specs.declared.Refusal.{Refusal}
 use Rattle.refusals.specs.declared.Refusal.the-variants.{Contradiction}
@@ -16,6 +14,7 @@ use Rattle.refusals.specs.Tests.{deductionTested}
 use Rattle.blocks.specs.Blocks.{Block}
 use Rattle.blocks.specs.BlockSets.{blockSet}
 use Rattle.frontier.specs.Frontier.{frontier}
+use Rattle.marks.specs.CellLists.{Below}
 use Rattle.marks.specs.Written.{written}
 use Rattle.direct.specs.Found.{Found, contradicted}
 use Rattle.direct.specs.Direct.{direct}
@@ -29,12 +28,10 @@ use Rattle.deductions.specs.declared.answer.DeductionAnswer.{DeductionAn
 pub record Held (r : RuleAnswer) (n s m : ℕ) : Type 0 where
   pub is : r ≡ ruleAnswer (foundIn r)
   pub alone : r .contradiction ≡ true → r ≡ ruleAnswer contradicted
-  pub room-safe : length (foundIn r .safe) ≤ s
-  pub room-mines : length (foundIn r .mines) ≤ m
-  pub few-safe : length (foundIn r .safe) ≤ 1024
-  pub few-mines : length (foundIn r .mines) ≤ 1024
-  pub safe-below : all (λ c. ltb c n) (foundIn r .safe) ≡ true
-  pub mines-below : all (λ c. ltb c n) (foundIn r .mines) ≡ true
+  pub room-safe : r .safe .count ≤ s
+  pub room-mines : r .mines .count ≤ m
+  pub safe-below : Below n (r .safe)
+  pub mines-below : Below n (r .mines)
 
 -- what the caller sees after the call: the answer, and each slice that was lent
 pub record Seen : Type 0 where

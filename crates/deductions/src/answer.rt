@@ -56,14 +56,14 @@ pub fn give_answer(
     let safe_list = found.safe;
     let mine_list = found.mines;
     let left = found.left;
-    put_list(&safe_list, found.safe_count, safe, 0);
-    put_list(&mine_list, found.mine_count, mines, 0);
-    write_at_cells(&safe_list, found.safe_count, 12, position);
-    write_at_cells(&mine_list, found.mine_count, 11, position);
+    put_list(&safe_list.cells, safe_list.count, safe, 0);
+    put_list(&mine_list.cells, mine_list.count, mines, 0);
+    write_at_cells(&safe_list.cells, safe_list.count, 12, position);
+    write_at_cells(&mine_list.cells, mine_list.count, 11, position);
     DeductionAnswer {
         tested: told(found.contradiction),
-        safe: found.safe_count,
-        mines: found.mine_count,
+        safe: safe_list.count,
+        mines: mine_list.count,
         blocks: left,
     }
 }

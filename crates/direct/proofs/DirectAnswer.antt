@@ -9,12 +9,12 @@ use Rattle.blocks.specs.declared.BlockSet.{BlockSet}
 use Rattle.blocks.proofs.Behind.{set-whole, none-fits}
 use Rattle.chunks.specs.Chunks.{chunkMatrixes}
 use Rattle.marks.specs.Marked.{Ready}
+use Rattle.marks.specs.CellLists.{cellList}
 use Rattle.direct.specs.Found.{contradicted}
 use Rattle.direct.specs.Direct.{directLeft, negative, direct}
 use Rattle.direct.specs.Answers.{Sweeps, ruleAnswer, listsOf, sweptLists}
 use Rattle.direct.specs.declared.answer.RuleAnswer.{RuleAnswer}
 use Rattle.direct.specs.declared.direct.Swept.{Swept}
-use Rattle.direct.proofs.ListedCells.{listed-is}
 use Rattle.direct.proofs.AllBlocks.{mines-of-all, safe-of-all}
 
 -- ---- a contradiction
@@ -34,20 +34,13 @@ contradicted-whole r e = set-whole [] (r .left) (ap (λ (x : RuleAnswer). x .lef
 module _ (bs : List Block) (ready : Ready bs) (fine : negative (map directLeft bs) ≡ false) where
   -- the lists in their arrays, and the blocks left
   pub answer-found : (r : Swept) → Sweeps (allEquations bs) r → (left : BlockSet) → left ≡ blockSet (chunkMatrixes (map directLeft bs))
-      → record { contradiction = false; safe = r .safe; «safe_count» = r .«safe_count»; mines = r .mines; «mine_count» = r .«mine_count»; left = left } ≡ ruleAnswer (direct bs)
+      → record { contradiction = false; safe = r .safe; mines = r .mines; left = left } ≡ ruleAnswer (direct bs)
   unfolding direct ruleAnswer
-  answer-found r w left is =
-      let (safe-array, safe-length) = listed-is (r .«safe_marks») (r .safe) (r .«safe_count») (w .safe-listed) _ (w .safe-are ∙ safe-of-all bs ready) in
-      let (mine-array, mine-length) = listed-is (r .«mine_marks») (r .mines) (r .«mine_count») (w .mines-listed) _ (w .mines-are ∙ mines-of-all bs ready) in
-      rw (fine, safe-array, safe-length, mine-array, mine-length, is)
+  answer-found r w left is = rw (fine, w .safe-are ∙ ap cellList (safe-of-all bs ready), w .mines-are ∙ ap cellList (mines-of-all bs ready), is)
 
 -- ---- the lists alone
 
 -- those of the two sweeps over any equations
-pub lists-swept : (es : List BlockEquation) (r : Swept) → Sweeps es r
-    → record { safe = r .safe; «safe_count» = r .«safe_count»; mines = r .mines; «mine_count» = r .«mine_count» } ≡ sweptLists es
+pub lists-swept : (es : List BlockEquation) (r : Swept) → Sweeps es r → record { safe = r .safe; mines = r .mines } ≡ sweptLists es
 unfolding listsOf
-lists-swept es r w =
-    let (safe-array, safe-length) = listed-is (r .«safe_marks») (r .safe) (r .«safe_count») (w .safe-listed) _ (w .safe-are) in
-    let (mine-array, mine-length) = listed-is (r .«mine_marks») (r .mines) (r .«mine_count») (w .mines-listed) _ (w .mines-are) in
-    rw (safe-array, safe-length, mine-array, mine-length)
+lists-swept es r w = rw (w .safe-are, w .mines-are)

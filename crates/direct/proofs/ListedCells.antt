@@ -23,6 +23,7 @@ use Rattle.lists.proofs.TurnedRound.{take-back}
 use Rattle.blocks.specs.Places.{marked, Marks}
 use Rattle.blocks.proofs.MarkLaws.{marks-has, marks-push, marks-none}
 use Rattle.marks.specs.Marked.{Listed}
+use Rattle.marks.specs.CellLists.{cellList}
 
 -- ---- no cell
 
@@ -49,9 +50,9 @@ module _ (marks out : List ℕ) (n : ℕ) (held : Listed marks out n) where
   pub listed-count : length (take n out) ≡ n
   listed-count = length-take-le n out (omega (arith, listed-array, held .few))
 
-  -- which tells the array and the count of a list
-  pub listed-is : (l : List ℕ) → take n out ≡ l → (out ≡ pad 1024 0 l) × (n ≡ length l)
-  listed-is l e = (held .filled ∙ ap (pad 1024 0) e, sym listed-count ∙ ap length e)
+  -- and the two are the struct of the list
+  pub listed-is : (l : List ℕ) → take n out ≡ l → record { cells = out; count = n } ≡ cellList l
+  listed-is l e = let counted : n ≡ length l = sym listed-count ∙ ap length e in let filled = held .filled ∙ ap (pad 1024 0) e in rw (filled, counted)
 
   module _ (c : ℕ) (below : c < 1024) (new : marked marks c ≡ false) where
     fresh : has (take n out) c ≡ false

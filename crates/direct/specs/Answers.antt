@@ -3,11 +3,10 @@
 use mathlib.Core.Path.{_≡_}
 use mathlib.Core.List.{List}
 use Prim.Native.Nat.{ℕ}
-use lib.ListN.{length, take}
-use Rattle.lists.specs.Lists.{pad}
 use Rattle.blocks.specs.Blocks.{BlockEquation}
 use Rattle.blocks.specs.BlockSets.{blockSet, blocksOf}
-use Rattle.marks.specs.Marked.{Listed}
+use Rattle.blocks.specs.Places.{Marks}
+use Rattle.marks.specs.CellLists.{cellList, listIn}
 use Rattle.direct.specs.Found.{Found}
 use Rattle.direct.specs.Direct.{sureMines, sureSafe}
 use Rattle.direct.specs.declared.answer.RuleAnswer.{RuleAnswer}
@@ -16,18 +15,11 @@ use Rattle.direct.specs.declared.direct.Swept.{Swept}
 
 -- the struct that holds what a rule found
 unfoldable pub ruleAnswer : Found → RuleAnswer
-ruleAnswer f = record {
-  contradiction = f .contradiction;
-  safe = pad 1024 0 (f .safe);
-  «safe_count» = length (f .safe);
-  mines = pad 1024 0 (f .mines);
-  «mine_count» = length (f .mines);
-  left = blockSet (f .left);
-}
+ruleAnswer f = record { contradiction = f .contradiction; safe = cellList (f .safe); mines = cellList (f .mines); left = blockSet (f .left) }
 
 -- the struct that holds two lists
 unfoldable pub listsOf : (safe mines : List ℕ) → Lists
-listsOf safe mines = record { safe = pad 1024 0 safe; «safe_count» = length safe; mines = pad 1024 0 mines; «mine_count» = length mines }
+listsOf safe mines = record { safe = cellList safe; mines = cellList mines }
 
 -- what the two sweeps find in equations
 abbrev pub sweptLists : List BlockEquation → Lists
@@ -35,20 +27,15 @@ sweptLists es = listsOf (sureSafe es) (sureMines es)
 
 -- the lists of an answer
 abbrev pub listsIn : RuleAnswer → Lists
-listsIn r = record { safe = r .safe; «safe_count» = r .«safe_count»; mines = r .mines; «mine_count» = r .«mine_count» }
+listsIn r = record { safe = r .safe; mines = r .mines }
 
 -- back: what the answer holds
 unfoldable pub foundIn : RuleAnswer → Found
-foundIn r = record {
-  contradiction = r .contradiction;
-  safe = take (r .«safe_count») (r .safe);
-  mines = take (r .«mine_count») (r .mines);
-  left = blocksOf (r .left);
-}
+foundIn r = record { contradiction = r .contradiction; safe = listIn (r .safe); mines = listIn (r .mines); left = blocksOf (r .left) }
 
--- the lists of the two sweeps over equations
+-- the cells that the two sweeps over equations find, marked and in lists
 pub record Sweeps (es : List BlockEquation) (r : Swept) : Type 0 where
-  pub safe-listed : Listed (r .«safe_marks») (r .safe) (r .«safe_count»)
-  pub safe-are : take (r .«safe_count») (r .safe) ≡ sureSafe es
-  pub mines-listed : Listed (r .«mine_marks») (r .mines) (r .«mine_count»)
-  pub mines-are : take (r .«mine_count») (r .mines) ≡ sureMines es
+  pub safe-marked : Marks (r .«safe_marks») (sureSafe es)
+  pub safe-are : r .safe ≡ cellList (sureSafe es)
+  pub mines-marked : Marks (r .«mine_marks») (sureMines es)
+  pub mines-are : r .mines ≡ cellList (sureMines es)

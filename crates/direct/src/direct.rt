@@ -13,6 +13,7 @@ use grid::window::wide;
 use marks::count_marked;
 use marks::left::has_negative;
 use marks::left::left_blocks;
+use marks::listing::CellList;
 use marks::marked_in_one;
 use sources::equations::Equations;
 ghost use mathlib.Core.Path.{_≡_};
@@ -119,14 +120,12 @@ fn sweep_safe(
     n
 }
 
-// What the two sweeps find: the mines and the safe cells, each marked, and in a list with its count. Entries past a count are 0.
+// What the two sweeps find: the mines and the safe cells, each marked, and in a list.
 pub struct Swept {
     pub mine_marks: [u8; 1024],
     pub safe_marks: [u8; 1024],
-    pub safe: [u16; 1024],
-    pub safe_count: usize,
-    pub mines: [u16; 1024],
-    pub mine_count: usize,
+    pub safe: CellList,
+    pub mines: CellList,
 }
 
 // The two sweeps over equations, in whatever blocks and order.
@@ -157,10 +156,14 @@ fn sweep(slots: &[u16; 8192], rests: &[u8; 1024], equations: usize) -> Swept
     Swept {
         mine_marks,
         safe_marks,
-        safe,
-        safe_count,
-        mines,
-        mine_count,
+        safe: CellList {
+            cells: safe,
+            count: safe_count,
+        },
+        mines: CellList {
+            cells: mines,
+            count: mine_count,
+        },
     }
 }
 
@@ -172,12 +175,7 @@ pub fn swept_cells(slots: &[u16; 8192], rests: &[u8; 1024], equations: usize) ->
     let found = sweep(slots, rests, equations);
     let safe = found.safe;
     let mines = found.mines;
-    Lists {
-        safe,
-        safe_count: found.safe_count,
-        mines,
-        mine_count: found.mine_count,
-    }
+    Lists { safe, mines }
 }
 
 // What solve_direct finds at a position, from its equations alone: no block is read, none is left.
@@ -214,9 +212,7 @@ pub fn direct_rule(set: BlockSet) -> RuleAnswer
     RuleAnswer {
         contradiction: false,
         safe,
-        safe_count: found.safe_count,
         mines,
-        mine_count: found.mine_count,
         left: chunk_matrixes(left),
     }
 }

@@ -151,7 +151,7 @@ module _ {s : BlockSet} (w : Whole s) (combinable : (b : Block) → List·Memᴰ
 
   pub all-listed : {safe : List ℕ} {safeCount : ℕ} {mines : List ℕ} {mineCount : ℕ} (i : ℕ) → ListedSoFar bs safe safeCount mines mineCount (drop i bs)
       → length bs ≤ i → (left : BlockSet) → left ≡ blockSet []
-      → record { contradiction = false; safe = safe; «safe_count» = safeCount; mines = mines; «mine_count» = mineCount; left = left } ≡ ruleAnswer (enumerated bs)
+      → record { contradiction = false; safe = record { cells = safe; count = safeCount }; mines = record { cells = mines; count = mineCount }; left = left } ≡ ruleAnswer (enumerated bs)
   unfolding ruleAnswer enumerated
   all-listed i l h left is =
       let none = drop-none bs i h in

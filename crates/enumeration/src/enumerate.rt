@@ -9,6 +9,7 @@ use direct::answer::RuleAnswer;
 use direct::answer::contradiction;
 use grid::window::wide;
 use groups::combine;
+use marks::listing::CellList;
 ghost use mathlib.Core.Path.{_≡_};
 ghost use mathlib.Core.List.{List·Memᴰ};
 ghost use Prim.Native.Nat.{_+_, _≤_};
@@ -129,10 +130,14 @@ pub fn enumerate_rule(set: BlockSet) -> RuleAnswer
     }
     RuleAnswer {
         contradiction: false,
-        safe,
-        safe_count,
-        mines,
-        mine_count,
+        safe: CellList {
+            cells: safe,
+            count: safe_count,
+        },
+        mines: CellList {
+            cells: mines,
+            count: mine_count,
+        },
         left: empty_set(),
     }
 }

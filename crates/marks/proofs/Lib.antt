@@ -1,6 +1,8 @@
 -- The laws of marks and of what they leave, in reading order.
 -- a value written at cells
 pub mod WrittenCells
+-- lists of cells
+pub mod HeldLists
 -- cells marked, and listed by their marks
 pub mod MarkedCells
 pub mod ByMarks

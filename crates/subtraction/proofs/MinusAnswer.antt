@@ -4,19 +4,15 @@
 use mathlib.Core.Path.{_≡_, sym, ap, _∙_}
 use mathlib.Core.Bool.{true, false}
 use mathlib.Core.List.{List, _++_}
-use Prim.Native.Nat.{ℕ, _+_, _≤_}
-use native.Mathlib.Omega.{arith}
-use lib.ListN.{length, take, length-append}
-use lib.Seq.{sets}
-use Rattle.lists.specs.Lists.{pad}
-use Rattle.lists.proofs.Arrays.{pad-take}
-use Rattle.lists.proofs.Joined.{pad-sets}
+use Prim.Native.Nat.{_+_, _≤_}
 use Rattle.blocks.specs.Blocks.{Block}
 use Rattle.blocks.specs.BlockSets.{blockSet, blocksOf, Whole}
 use Rattle.blocks.specs.declared.BlockSet.{BlockSet}
 use Rattle.blocks.proofs.Reading.{blocks-of-set}
 use Rattle.chunks.specs.Chunks.{chunkMatrixes}
 use Rattle.marks.specs.Marked.{Ready, leftBlocks}
+use Rattle.marks.specs.CellLists.{cellList, Appended}
+use Rattle.marks.specs.declared.listing.CellList.{CellList}
 use Rattle.direct.specs.Found.{contradicted}
 use Rattle.direct.specs.Direct.{fromLast, direct}
 use Rattle.direct.specs.Answers.{ruleAnswer}
@@ -59,12 +55,6 @@ module _ (bs : List Block) (none : direct (minusBlocks bs) .contradiction ≡ fa
   unfolding subtraction
   found-left = rw none
 
--- ---- lists in arrays
-
--- a list stored behind another, each held in an array with its length
-pub lists-stored : (k l : List ℕ) → length k + length l ≤ 1024 → sets (pad 1024 0 k) (length k) (take (length l) (pad 1024 0 l)) ≡ pad 1024 0 (k ++ l)
-lists-stored k l h = rw (pad-take 1024 0 l) (pad-sets 1024 0 k l h)
-
 -- ---- on a set
 
 -- `left` holds what the marks leave
@@ -89,21 +79,13 @@ module _ (s : BlockSet) (w : Whole s) (ready : Ready (blocksOf s)) (own : Subtra
     unfolding ruleAnswer
     rule-contradiction = sym (ap (λ (r : RuleAnswer). r .contradiction) answered)
 
-    rule-safe : rule .safe ≡ pad 1024 0 (direct (minusBlocks bs) .safe)
+    rule-safe : rule .safe ≡ cellList (direct (minusBlocks bs) .safe)
     unfolding ruleAnswer
     rule-safe = ap (λ (r : RuleAnswer). r .safe) answered
 
-    rule-safe-count : rule .«safe_count» ≡ length (direct (minusBlocks bs) .safe)
-    unfolding ruleAnswer
-    rule-safe-count = ap (λ (r : RuleAnswer). r .«safe_count») answered
-
-    rule-mines : rule .mines ≡ pad 1024 0 (direct (minusBlocks bs) .mines)
+    rule-mines : rule .mines ≡ cellList (direct (minusBlocks bs) .mines)
     unfolding ruleAnswer
     rule-mines = ap (λ (r : RuleAnswer). r .mines) answered
-
-    rule-mine-count : rule .«mine_count» ≡ length (direct (minusBlocks bs) .mines)
-    unfolding ruleAnswer
-    rule-mine-count = ap (λ (r : RuleAnswer). r .«mine_count») answered
 
     -- its blocks are read back
     rule-left : blocksOf (rule .left) ≡ direct (minusBlocks bs) .left
@@ -119,52 +101,27 @@ module _ (s : BlockSet) (w : Whole s) (ready : Ready (blocksOf s)) (own : Subtra
         answered ∙ ap ruleAnswer (direct-contradicted (minusBlocks bs) both ∙ sym (subtraction-contradicted bs both))
 
     -- there is room for both lists
-    pub all-mines-fit : own .«mine_count» + rule .«mine_count» ≤ 1024
-    all-mines-fit = omega (arith, told .mines-counted, rule-mine-count, mines-room bs ready (w .fits))
+    pub all-mines-fit : own .mines .count + rule .mines .count ≤ 1024
+    all-mines-fit = rw (told .mines-are, rule-mines) (mines-room bs ready (w .fits))
 
-    pub all-safe-fit : own .«safe_count» + rule .«safe_count» ≤ 1024
-    all-safe-fit = omega (arith, told .safe-counted, rule-safe-count, safe-room bs ready (w .fits))
+    pub all-safe-fit : own .safe .count + rule .safe .count ≤ 1024
+    all-safe-fit = rw (told .safe-are, rule-safe) (safe-room bs ready (w .fits))
 
     -- and the struct that holds them, with the blocks left, is the rule's answer
     pub rule-answered : rule .contradiction ≡ false
-        → (mine-list : List ℕ) → mine-list ≡ sets (own .mines) (own .«mine_count») (take (rule .«mine_count») (rule .mines))
-        → (safe-list : List ℕ) → safe-list ≡ sets (own .safe) (own .«safe_count») (take (rule .«safe_count») (rule .safe))
+        → (safe : CellList) → Appended (own .safe) (rule .safe) safe → (mines : CellList) → Appended (own .mines) (rule .mines) mines
         → (split : BlockSet) → split ≡ blockSet (chunkMatrixes (blocksOf (rule .left)))
-        → record {
-          contradiction = false;
-          safe = safe-list;
-          «safe_count» = own .«safe_count» + rule .«safe_count»;
-          mines = mine-list;
-          «mine_count» = own .«mine_count» + rule .«mine_count»;
-          left = split;
-        }
-        ≡ ruleAnswer (subtraction bs)
+        → record { contradiction = false; safe = safe; mines = mines; left = split } ≡ ruleAnswer (subtraction bs)
     unfolding ruleAnswer
-    rule-answered out mine-list mines-stored safe-list safe-stored split split-is =
+    rule-answered out safe safe-both mines mines-both split split-is =
         let none = rule-contradiction ∙ out in
-        let a = fromLast minusMines bs in
-        let b = direct (minusBlocks bs) .mines in
-        let c = fromLast minusSafe bs in
-        let d = direct (minusBlocks bs) .safe in
         rw (
-          mines-stored,
-          safe-stored,
+          safe-both (fromLast minusSafe bs) (direct (minusBlocks bs) .safe) (told .safe-are) rule-safe,
+          mines-both (fromLast minusMines bs) (direct (minusBlocks bs) .mines) (told .mines-are) rule-mines,
           split-is,
-          told .mines-counted,
-          told .safe-counted,
-          told .mines-are,
-          told .safe-are,
-          rule-mine-count,
-          rule-safe-count,
-          rule-mines,
-          rule-safe,
           rule-left,
           subtraction-found bs none,
           found-mines bs none,
           found-safe bs none,
           found-left bs none,
-          lists-stored a b (mines-room bs ready (w .fits)),
-          lists-stored c d (safe-room bs ready (w .fits)),
-          length-append a b,
-          length-append c d,
         )

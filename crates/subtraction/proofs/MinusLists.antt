@@ -5,9 +5,9 @@ use mathlib.Core.Bool.{true}
 use mathlib.Core.List.{List, map}
 use Prim.Native.Nat.{ℕ, _+_, _-_, _*_, _≤_}
 use native.Mathlib.Omega.{arith}
-use lib.ListN.{length, take, replicate, length-append, length-map}
+use lib.ListN.{length, replicate, length-map}
 use lib.Seq.{sets}
-use Rattle.lists.specs.Lists.{range, all, joined, pad}
+use Rattle.lists.specs.Lists.{range, all, joined}
 use Rattle.lists.proofs.Rearranged.{length-range}
 use Rattle.blocks.specs.Blocks.{BlockEquation, Block}
 use Rattle.blocks.specs.BlockSets.{slotsOf, slotCells, beginAt, blocksOf, smallEquation, Whole}
@@ -16,6 +16,8 @@ use Rattle.blocks.specs.declared.BlockSet.{BlockSet}
 use Rattle.blocks.proofs.Slots.{allSlots}
 use Rattle.sources.proofs.EquationArrays.{slots-stored, rests-stored, arrays-slots, arrays-read}
 use Rattle.marks.specs.Marked.{Ready, leftEquations}
+use Rattle.marks.specs.CellLists.{cellList, Appended}
+use Rattle.marks.specs.declared.listing.CellList.{CellList}
 use Rattle.marks.proofs.WhatIsLeft.{equations-fewer, equations-pass, small-left}
 use Rattle.direct.specs.Direct.{sureMines, sureSafe, fromLast}
 use Rattle.direct.specs.Answers.{listsOf, sweptLists}
@@ -25,7 +27,6 @@ use Rattle.subtraction.specs.Minus.{minusMines, minusSafe, leftOf}
 use Rattle.subtraction.specs.Pairs.{Subtracts, minusLists}
 use Rattle.subtraction.specs.declared.Subtracted.{Subtracted}
 use Rattle.subtraction.proofs.SweptLeft.{left-mines-room, left-safe-room}
-use Rattle.subtraction.proofs.MinusAnswer.{lists-stored}
 
 -- ---- what is left of equations, in fresh arrays
 
@@ -78,58 +79,27 @@ module _ (s : BlockSet) (w : Whole s) (ready : Ready (blocksOf s)) (own : Subtra
   swept : more ≡ sweptLists (leftOf bs)
   swept = more-is ∙ ap sweptLists (ap (leftEquations true (own .«mine_marks») (own .known)) (equations-of-all s w n at) ∙ told .equations-left)
 
-  more-mines : more .mines ≡ pad 1024 0 (sureMines (leftOf bs))
+  more-mines : more .mines ≡ cellList (sureMines (leftOf bs))
   unfolding listsOf
   more-mines = ap (λ (l : Lists). l .mines) swept
 
-  more-mine-count : more .«mine_count» ≡ length (sureMines (leftOf bs))
-  unfolding listsOf
-  more-mine-count = ap (λ (l : Lists). l .«mine_count») swept
-
-  more-safe : more .safe ≡ pad 1024 0 (sureSafe (leftOf bs))
+  more-safe : more .safe ≡ cellList (sureSafe (leftOf bs))
   unfolding listsOf
   more-safe = ap (λ (l : Lists). l .safe) swept
 
-  more-safe-count : more .«safe_count» ≡ length (sureSafe (leftOf bs))
-  unfolding listsOf
-  more-safe-count = ap (λ (l : Lists). l .«safe_count») swept
-
   -- there is room for both lists
-  pub both-mines-fit : own .«mine_count» + more .«mine_count» ≤ 1024
-  both-mines-fit = omega (arith, told .mines-counted, more-mine-count, left-mines-room bs ready (w .fits))
+  pub both-mines-fit : own .mines .count + more .mines .count ≤ 1024
+  both-mines-fit = rw (told .mines-are, more-mines) (left-mines-room bs ready (w .fits))
 
-  pub both-safe-fit : own .«safe_count» + more .«safe_count» ≤ 1024
-  both-safe-fit = omega (arith, told .safe-counted, more-safe-count, left-safe-room bs ready (w .fits))
+  pub both-safe-fit : own .safe .count + more .safe .count ≤ 1024
+  both-safe-fit = rw (told .safe-are, more-safe) (left-safe-room bs ready (w .fits))
 
   -- and the struct that holds them is what the contract says
-  pub both-answered : (mine-list : List ℕ) → mine-list ≡ sets (own .mines) (own .«mine_count») (take (more .«mine_count») (more .mines))
-      → (safe-list : List ℕ) → safe-list ≡ sets (own .safe) (own .«safe_count») (take (more .«safe_count») (more .safe))
-      → record {
-        safe = safe-list;
-        «safe_count» = own .«safe_count» + more .«safe_count»;
-        mines = mine-list;
-        «mine_count» = own .«mine_count» + more .«mine_count»;
-      }
-      ≡ minusLists bs
+  pub both-answered : (safe : CellList) → Appended (own .safe) (more .safe) safe → (mines : CellList) → Appended (own .mines) (more .mines) mines
+      → record { safe = safe; mines = mines } ≡ minusLists bs
   unfolding listsOf
-  both-answered mine-list mines-stored safe-list safe-stored =
-      let a = fromLast minusMines bs in
-      let b = sureMines (leftOf bs) in
-      let c = fromLast minusSafe bs in
-      let d = sureSafe (leftOf bs) in
+  both-answered safe safe-both mines mines-both =
       rw (
-        mines-stored,
-        safe-stored,
-        told .mines-counted,
-        told .safe-counted,
-        told .mines-are,
-        told .safe-are,
-        more-mine-count,
-        more-safe-count,
-        more-mines,
-        more-safe,
-        lists-stored a b (left-mines-room bs ready (w .fits)),
-        lists-stored c d (left-safe-room bs ready (w .fits)),
-        length-append a b,
-        length-append c d,
+        safe-both (fromLast minusSafe bs) (sureSafe (leftOf bs)) (told .safe-are) more-safe,
+        mines-both (fromLast minusMines bs) (sureMines (leftOf bs)) (told .mines-are) more-mines,
       )

@@ -6,19 +6,17 @@ use mathlib.Core.List.{List}
 use Prim.Native.Nat.{ℕ, _≤_, _<_}
 use native.Mathlib.Omega.{arith}
 use lib.ListN.{length, getD, replicate}
-use lib.Seq.{sets}
-use Rattle.lists.specs.Lists.{range, bit, keep, any, pad}
-use Rattle.lists.proofs.Arrays.{length-pad}
-use Rattle.lists.proofs.Joined.{filled-sets}
+use Rattle.lists.specs.Lists.{range, bit, keep, any}
 use Rattle.blocks.specs.Blocks.{BlockEquation, Block}
 use Rattle.blocks.specs.BlockSets.{blocksOf, Whole}
 use Rattle.blocks.specs.Places.{marked}
 use Rattle.blocks.specs.declared.BlockSet.{BlockSet}
 use Rattle.marks.specs.Marked.{Ready, cellsWith, allWith}
+use Rattle.marks.specs.CellLists.{cellList}
+use Rattle.marks.specs.declared.listing.CellList.{CellList}
 use Rattle.direct.specs.Direct.{fromLast}
 use Rattle.subtraction.specs.Minus.{minusMines, minusSafe}
 use Rattle.subtraction.specs.Pairs.{Subtracts}
-use Rattle.subtraction.specs.declared.Subtracted.{Subtracted}
 use Rattle.subtraction.proofs.ReadyBlocks.{mines-room, safe-room}
 use Rattle.subtraction.proofs.SetPlaces.{any-places, joined-back, cells-at, equations-at}
 use Rattle.subtraction.proofs.Pairs.{minesOf, safeOf, minesIn, safeIn}
@@ -67,33 +65,12 @@ module _ (s : BlockSet) (w : Whole s) (ready : Ready (blocksOf s)) (mines safe :
 
   -- the struct that holds the lists and the marks tells what the rule says of the blocks
   pub subtracted : (known : List ℕ) → ((d : ℕ) → d < 1024 → getD known d 0 ≡ bit (marked mines d || marked safe d))
-      → (mine-list : List ℕ) → mine-list ≡ sets (replicate 1024 0) 0 (allWith mines (s .cells) (s .«cell_ends») (s .blocks))
-      → (mine-count : ℕ) → mine-count ≡ length (allWith mines (s .cells) (s .«cell_ends») (s .blocks))
-      → (safe-list : List ℕ) → safe-list ≡ sets (replicate 1024 0) 0 (allWith safe (s .cells) (s .«cell_ends») (s .blocks))
-      → (safe-count : ℕ) → safe-count ≡ length (allWith safe (s .cells) (s .«cell_ends») (s .blocks))
-      → Subtracts bs record {
-        «mine_marks» = mines;
-        known = known;
-        safe = safe-list;
-        «safe_count» = safe-count;
-        mines = mine-list;
-        «mine_count» = mine-count;
-      }
-  subtracted known known-are mine-list mines-stored mine-count mines-counted safe-list safe-stored safe-count safe-counted = record {
-    safe-are = safe-stored ∙ filled-sets 1024 0 (allWith safe (s .cells) (s .«cell_ends») (s .blocks)) safe-fit ∙ ap (pad 1024 0) safe-listed;
-    safe-counted = safe-counted ∙ ap length safe-listed;
-    mines-are = mines-stored ∙ filled-sets 1024 0 (allWith mines (s .cells) (s .«cell_ends») (s .blocks)) mines-fit ∙ ap (pad 1024 0) mines-listed;
-    mines-counted = mines-counted ∙ ap length mines-listed;
+      → (mine-list : CellList) → mine-list ≡ cellList (allWith mines (s .cells) (s .«cell_ends») (s .blocks))
+      → (safe-list : CellList) → safe-list ≡ cellList (allWith safe (s .cells) (s .«cell_ends») (s .blocks))
+      → Subtracts bs record { «mine_marks» = mines; known = known; safe = safe-list; mines = mine-list }
+  subtracted known known-are mine-list mines-held safe-list safe-held = record {
+    safe-are = safe-held ∙ ap cellList safe-listed;
+    mines-are = mines-held ∙ ap cellList mines-listed;
     blocks-left = marks-left bs ready mines safe mines-are safe-are (w .fits .on-board) known known-are;
     equations-left = equations-left bs ready mines safe mines-are safe-are (w .fits .on-board) known known-are;
   }
-
--- the arrays of such a struct have 1,024 entries
-module _ (s : BlockSet) (w : Whole s) (ready : Ready (blocksOf s)) (own : Subtracted) (told : Subtracts (blocksOf s) own) where
-  pub own-mines-long : length (own .mines) ≡ 1024
-  own-mines-long =
-      ap length (told .mines-are) ∙ length-pad 1024 0 (fromLast minusMines (blocksOf s)) (omega (arith, mines-room (blocksOf s) ready (w .fits)))
-
-  pub own-safe-long : length (own .safe) ≡ 1024
-  own-safe-long =
-      ap length (told .safe-are) ∙ length-pad 1024 0 (fromLast minusSafe (blocksOf s)) (omega (arith, safe-room (blocksOf s) ready (w .fits)))

@@ -4,11 +4,12 @@ use mathlib.Core.Path.{_≡_}
 use mathlib.Core.Bool.{Bool, true, _&&_}
 use mathlib.Core.List.{List, _++_}
 use Prim.Native.Nat.{ℕ, _<_}
-use lib.ListN.{length, getD}
-use Rattle.lists.specs.Lists.{any, nodup, pad}
+use lib.ListN.{getD}
+use Rattle.lists.specs.Lists.{any, nodup}
 use Rattle.blocks.specs.Blocks.{Block, BlockEquation}
 use Rattle.blocks.specs.BlockSets.{allEquations, slotCells}
 use Rattle.marks.specs.Marked.{leftEquations, leftBlocks}
+use Rattle.marks.specs.CellLists.{cellList}
 use Rattle.direct.specs.Direct.{sureMines, sureSafe, fromLast}
 use Rattle.direct.specs.declared.answer.Lists.{Lists}
 use Rattle.direct.specs.Answers.{listsOf}
@@ -31,11 +32,9 @@ pub record Once (slots : List ℕ) (end : ℕ) : Type 0 where
 abbrev pub someOther : (BlockEquation → BlockEquation → Bool) → BlockEquation → List BlockEquation → Bool
 someOther t e es = any (λ (f : BlockEquation). exceeds e f && t e f) es
 
--- what all pairs of all blocks tell: the rule's own lists, in arrays, and marks by which there is left what the rule leaves
+-- what all pairs of all blocks tell: the rule's own lists, and marks by which there is left what the rule leaves
 pub record Subtracts (bs : List Block) (r : Subtracted) : Type 0 where
-  pub safe-are : r .safe ≡ pad 1024 0 (fromLast minusSafe bs)
-  pub safe-counted : r .«safe_count» ≡ length (fromLast minusSafe bs)
-  pub mines-are : r .mines ≡ pad 1024 0 (fromLast minusMines bs)
-  pub mines-counted : r .«mine_count» ≡ length (fromLast minusMines bs)
+  pub safe-are : r .safe ≡ cellList (fromLast minusSafe bs)
+  pub mines-are : r .mines ≡ cellList (fromLast minusMines bs)
   pub blocks-left : leftBlocks true (r .«mine_marks») (r .known) bs ≡ minusBlocks bs
   pub equations-left : leftEquations true (r .«mine_marks») (r .known) (allEquations bs) ≡ leftOf bs

@@ -18,8 +18,9 @@ use marks::count_marked;
 use marks::left::left_blocks;
 use marks::left::left_rests;
 use marks::left::left_slots;
+use marks::listing::CellList;
+use marks::listing::append;
 use marks::listing::list_blocks;
-use marks::listing::put_list;
 use marks::marked_in_one;
 use own::mark_own;
 ghost use mathlib.Core.Path.{_≡_};
@@ -135,14 +136,12 @@ fn sweep_left(
     swept_cells(&left, &less, len)
 }
 
-// What all pairs of equations tell: the cells that they mark as mines, those that they mark at all, and both in lists with their counts.
+// What all pairs of equations tell: the cells that they mark as mines, those that they mark at all, and the mines and the safe cells in lists.
 pub struct Subtracted {
     pub mine_marks: [u8; 1024],
     pub known: [u8; 1024],
-    pub safe: [u16; 1024],
-    pub safe_count: usize,
-    pub mines: [u16; 1024],
-    pub mine_count: usize,
+    pub safe: CellList,
+    pub mines: CellList,
 }
 
 // The pairs of all blocks: marks, and the rule's own lists.
@@ -165,20 +164,16 @@ fn subtract(set: BlockSet) -> Subtracted
         &mut mine_marks,
         &mut safe_marks,
     );
-    let mut mines = [0u16; 1024];
-    let mut safe = [0u16; 1024];
     let cells = set.cells;
     let cell_ends = set.cell_ends;
-    let mine_count = list_blocks(&cells, &cell_ends, blocks, &mine_marks, &mut mines);
-    let safe_count = list_blocks(&cells, &cell_ends, blocks, &safe_marks, &mut safe);
+    let mines = list_blocks(&cells, &cell_ends, blocks, &mine_marks);
+    let safe = list_blocks(&cells, &cell_ends, blocks, &safe_marks);
     let known = marked_in_one(&mine_marks, &safe_marks);
     Subtracted {
         mine_marks,
         known,
         safe,
-        safe_count,
         mines,
-        mine_count,
     }
 }
 
@@ -196,18 +191,10 @@ pub fn minus_rule(set: BlockSet) -> RuleAnswer
     if rule.contradiction {
         return rule;
     }
-    let mut mines = own.mines;
-    let mut safe = own.safe;
-    let more_mines = rule.mines;
-    let more_safe = rule.safe;
-    put_list(&more_mines, rule.mine_count, &mut mines, own.mine_count);
-    put_list(&more_safe, rule.safe_count, &mut safe, own.safe_count);
     RuleAnswer {
         contradiction: false,
-        safe,
-        safe_count: own.safe_count + rule.safe_count,
-        mines,
-        mine_count: own.mine_count + rule.mine_count,
+        safe: append(own.safe, rule.safe),
+        mines: append(own.mines, rule.mines),
         left: chunk_matrixes(rule.left),
     }
 }
@@ -225,16 +212,8 @@ pub fn minus_cells(set: BlockSet) -> Lists
     let rests = set.rests;
     let equations = begin_at(&set.equation_ends, set.blocks);
     let more = sweep_left(&slots, &rests, equations, &marks, &known);
-    let mut mines = own.mines;
-    let mut safe = own.safe;
-    let more_mines = more.mines;
-    let more_safe = more.safe;
-    put_list(&more_mines, more.mine_count, &mut mines, own.mine_count);
-    put_list(&more_safe, more.safe_count, &mut safe, own.safe_count);
     Lists {
-        safe,
-        safe_count: own.safe_count + more.safe_count,
-        mines,
-        mine_count: own.mine_count + more.mine_count,
+        safe: append(own.safe, more.safe),
+        mines: append(own.mines, more.mines),
     }
 }

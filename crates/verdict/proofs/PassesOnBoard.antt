@@ -6,13 +6,14 @@ use mathlib.Core.Bool.{Bool, false}
 use mathlib.Core.List.{List}
 use Prim.Native.Nat.{ℕ, _+_, _*_, _<_, max}
 use native.Mathlib.Omega.{arith}
-use lib.ListN.{length, take}
+use lib.ListN.{length}
 use Rattle.grid.specs.Window.{neighbours, Board}
 use Rattle.grid.proofs.Places.{few-cells}
 use Rattle.grid.proofs.Neighbours.{neighbours-few}
 use Rattle.fitting.specs.Boards.{Accepted}
 use Rattle.fitting.specs.Passes.{openCells, allOpen, ending, passes}
 use Rattle.fitting.proofs.Own.{fit-length}
+use Rattle.marks.specs.CellLists.{listIn}
 use Rattle.marks.specs.Written.{written}
 use Rattle.marks.proofs.WrittenCells.{written-length}
 use Rattle.enumeration.specs.ThreeRules.{threeRules}
@@ -47,17 +48,17 @@ module _ (edgeless : Bool) {rows columns : ℕ} {b : List ℕ} (board : Board b 
   -- before the last pass, with a safe cell that isn't open
   module _ (before : k < length b) (shut : allOpen b p ≡ false) (r : Finding) (found : Finds (rows * columns) (threeRules (neighbours edgeless rows columns) p) r) where
     -- the rules found nothing
-    pub found-nothing : r .«safe_count» + r .«mine_count» ≡ 0
+    pub found-nothing : r .safe .count + r .mines .count ≡ 0
         → passes (neighbours edgeless rows columns) b (threeRules (neighbours edgeless rows columns)) (length b) p₀ 0 0 ≡ ending false p grade rounds
     found-nothing none = ends-stuck (neighbours edgeless rows columns) b (threeRules (neighbours edgeless rows columns)) u before shut (finds-nothing found none)
 
     -- the mines that they found are marked and the safe cells opened
-    pub found-cells : Accepted (neighbours edgeless rows columns) b → r .«safe_count» + r .«mine_count» ≢ 0
-        → (marked : List ℕ) → marked ≡ written 11 (take (r .«mine_count») (r .mines)) p
-        → (q : List ℕ) → q ≡ openCells (neighbours edgeless rows columns) b marked (take (r .«safe_count») (r .safe))
+    pub found-cells : Accepted (neighbours edgeless rows columns) b → r .safe .count + r .mines .count ≢ 0
+        → (marked : List ℕ) → marked ≡ written 11 (listIn (r .mines)) p
+        → (q : List ℕ) → q ≡ openCells (neighbours edgeless rows columns) b marked (listIn (r .safe))
         → (g : ℕ) → g ≡ max grade (r .grade) → OnBoard edgeless rows columns b p₀ (k + 1) q g (rounds + 1)
     found-cells ok some marked marks q opens g greatest =
         let near = neighbours edgeless rows columns in
         underway-next near b (threeRules near) u before shut ok (board-rules-sound edgeless rows columns b) (finds-cell found some)
-        q (opens ∙ rw (marks, marks-written p (take (r .«mine_count») (r .mines))) (finds-pass found near b ok (λ c _. neighbours-few edgeless rows columns c) p same-cells))
+        q (opens ∙ rw (marks, marks-written p (listIn (r .mines))) (finds-pass found near b ok (λ c _. neighbours-few edgeless rows columns c) p same-cells))
         g (greatest ∙ rw (found .same-grade))

@@ -3,19 +3,18 @@
 -- (`found-cell-is`); so the first of the three with a cell, or the third, is what the three rules find (`direct-finds`, `later-finds`). The direct rule's cells
 -- are those of the sweeps over the position's equations, and subtraction's those of the sweeps over all that it leaves, where a layout fits, so that
 -- neither meets a contradiction. What a rule lists are cells of the frontier, so that it is on the board. Rests on the soundness of the rules. Assumes nothing.
-use mathlib.Core.Path.{_≡_, refl, sym, _∙_}
+use mathlib.Core.Path.{_≡_, refl, sym, ap, _∙_}
 use mathlib.Core.Logic.{inl, inr}
 use mathlib.Core.Bool.{Bool, true, false, not}
 use mathlib.Core.List.{List}
 use Prim.Native.Nat.{ℕ, _*_, _≤_}
 use native.Mathlib.Omega.{arith}
-use lib.Dec.{ltb}
+use lib.Dec.{ltb, eqb}
 use lib.ListN.{length}
 use borrow.Author.Tests.{ltb-true, not-true, not-false}
-use Rattle.lists.specs.Lists.{all, nodup}
+use Rattle.lists.specs.Lists.{all, empty, nodup}
 use Rattle.lists.proofs.Tests.{Decided, decided}
 use Rattle.lists.proofs.All.{has-all, all-has}
-use Rattle.lists.proofs.Arrays.{length-pad, pad-take}
 use Rattle.lists.proofs.Rearranged.{nodup-below}
 use Rattle.lists.proofs.Among.{Among}
 use Rattle.grid.specs.Window.{neighbours, Board}
@@ -30,6 +29,9 @@ use Rattle.sources.specs.Equations.{plainEquations, equationArrays}
 use Rattle.sources.specs.declared.equations.Equations.{Equations}
 use Rattle.sources.proofs.EquationArrays.{arrays-slots, arrays-read, plain-small, plain-few}
 use Rattle.frontier.specs.Frontier.{frontier}
+use Rattle.marks.specs.CellLists.{cellList, listIn, Below}
+use Rattle.marks.specs.declared.listing.CellList.{CellList}
+use Rattle.marks.proofs.HeldLists.{list-held, cell-list-below}
 use Rattle.direct.specs.Found.{Found, ruleOf}
 use Rattle.direct.specs.Direct.{sureMines, sureSafe, direct}
 use Rattle.direct.specs.Answers.{ruleAnswer, listsOf, listsIn, sweptLists}
@@ -64,40 +66,46 @@ module _ (y z m : Lists) (second : m ≡ y) where
 
 -- ---- one rule
 
--- the struct holds the cells that a rule finds, in whatever order, none twice
+-- the struct holds the cells of a list, in whatever order, none twice
+pub record HoldsCells (r : CellList) (k : List ℕ) : Type 0 where
+  pub list : List ℕ
+  pub is : r ≡ cellList list
+  pub same : SameNumbers list k
+  pub once : nodup list ≡ true
+
+-- both lists of the struct hold what a rule finds
 pub record HoldsFound (r : Lists) (f : Found) : Type 0 where
-  pub safe : List ℕ
-  pub mines : List ℕ
-  pub is : r ≡ listsOf safe mines
-  pub same-safe : SameNumbers safe (f .safe)
-  pub same-mines : SameNumbers mines (f .mines)
-  pub safe-once : nodup safe ≡ true
-  pub mines-once : nodup mines ≡ true
+  pub safe : HoldsCells (r .safe) (f .safe)
+  pub mines : HoldsCells (r .mines) (f .mines)
 
--- a list with the cells of one that stands among those of the frontier
-module _ (near : ℕ → List ℕ) (p l k : List ℕ) (same : SameNumbers l k) (among : Among k (allCells (frontier near p))) where
-  -- is on the board
-  same-below : all (λ c. ltb c (length p)) l ≡ true
-  same-below = has-all (λ c. ltb c (length p)) l (λ c h. all-has (λ x. ltb x (length p)) k (listed-below near p k among) c (sym (same c) ∙ h))
+module _ (r : CellList) (k : List ℕ) (held : HoldsCells r k) where
+  -- the count is 0 where the list is empty
+  held-none : eqb (r .count) 0 ≡ empty k
+  held-none = rw (held .is) (sym (empty-length (held .list)) ∙ same-empty (held .list) k (held .same))
 
-  -- and not longer than that, where no cell stands twice
-  same-few : nodup l ≡ true → length l ≤ length p
-  same-few once = nodup-below (length p) l once (λ c h. ltb-true c (length p) (all-has (λ x. ltb x (length p)) l same-below c h))
+  -- the cells read are those of the list
+  held-same : SameNumbers (listIn r) k
+  held-same c = rw (list-held r (held .list) (held .is)) (held .same c)
+
+module _ (near : ℕ → List ℕ) (p : List ℕ) (r : CellList) (k : List ℕ) (among : Among k (allCells (frontier near p))) where
+  -- a list among the cells of the frontier holds itself
+  holds-list : r ≡ cellList k → HoldsCells r k
+  holds-list is = record { list = k; is = is; same = λ c. refl; once = listed-once near p k among }
+
+  -- and one with its cells is on the board, and not longer than that
+  held-below : HoldsCells r k → (n : ℕ) → length p ≡ n → n ≤ 1024 → Below n r
+  held-below held n size few =
+      let inside : all (λ c. ltb c (length p)) (held .list) ≡ true =
+      has-all (λ c. ltb c (length p)) (held .list) (λ c h. all-has (λ x. ltb x (length p)) k (listed-below near p k among) c (sym (held .same c) ∙ h)) in
+      let short = nodup-below (length p) (held .list) (held .once) (λ c h. ltb-true c (length p) (all-has (λ x. ltb x (length p)) (held .list) inside c h)) in
+      cell-list-below n r (held .list) (held .is) (omega (arith, short, size, few)) (rw (← size) inside)
 
 -- the struct that holds what a rule finds at a position
 module _ (near : ℕ → List ℕ) (p : List ℕ) (rule : List Block → Found) (grade : ℕ) (r : Lists) (held : HoldsFound r (rule (frontier near p))) where
   -- says whether the rule found a cell
   found-cell-is : foundCell r ≡ not (nothing (ruleOf near rule grade p))
-  unfolding listsOf
   found-cell-is =
-      let found = rule (frontier near p) in
-      rw (
-        held .is,
-        sym (same-empty (held .safe) (found .safe) (held .same-safe)),
-        sym (same-empty (held .mines) (found .mines) (held .same-mines)),
-        empty-length (held .safe),
-        empty-length (held .mines),
-      )
+      rw (held-none (r .safe) (rule (frontier near p) .safe) (held .safe), held-none (r .mines) (rule (frontier near p) .mines) (held .mines))
 
   pub found-none : foundCell r ≡ false → nothing (ruleOf near rule grade p) ≡ true
   found-none h = not-false (nothing (ruleOf near rule grade p)) (sym found-cell-is ∙ h)
@@ -107,25 +115,13 @@ module _ (near : ℕ → List ℕ) (p : List ℕ) (rule : List Block → Found) 
 
   -- and is what a pass is told, where the rule is sound and there are at most 1024 cells
   pub graded-finds : SoundAt near p (rule (frontier near p)) → (n : ℕ) → length p ≡ n → n ≤ 1024 → Finds n (ruleOf near rule grade p) (gradedFinding r grade)
-  unfolding listsOf
-  graded-finds sound n size few =
-      let found = rule (frontier near p) in
-      let safe : length (held .safe) ≤ 1024 =
-      omega (arith, same-few near p (held .safe) (found .safe) (held .same-safe) (sound .safe-among) (held .safe-once)) in
-      let mines : length (held .mines) ≤ 1024 =
-      omega (arith, same-few near p (held .mines) (found .mines) (held .same-mines) (sound .mines-among) (held .mines-once)) in
-      rw (held .is)
-      (record {
-        safe-long = length-pad 1024 0 (held .safe) safe;
-        mines-long = length-pad 1024 0 (held .mines) mines;
-        few-safe = safe;
-        few-mines = mines;
-        safe-below = rw (pad-take 1024 0 (held .safe), ← size) (same-below near p (held .safe) (found .safe) (held .same-safe) (sound .safe-among));
-        mines-below = rw (pad-take 1024 0 (held .mines), ← size) (same-below near p (held .mines) (found .mines) (held .same-mines) (sound .mines-among));
-        same-safe = λ c. rw (pad-take 1024 0 (held .safe)) (held .same-safe c);
-        same-mines = λ c. rw (pad-take 1024 0 (held .mines)) (held .same-mines c);
-        same-grade = refl;
-      })
+  graded-finds sound n size few = record {
+    safe-below = held-below near p (r .safe) (rule (frontier near p) .safe) (sound .safe-among) (held .safe) n size few;
+    mines-below = held-below near p (r .mines) (rule (frontier near p) .mines) (sound .mines-among) (held .mines) n size few;
+    same-safe = held-same (r .safe) (rule (frontier near p) .safe) (held .safe);
+    same-mines = held-same (r .mines) (rule (frontier near p) .mines) (held .mines);
+    same-grade = refl;
+  }
 
 -- ---- the three rules on a board
 
@@ -155,48 +151,39 @@ module _ (edgeless : Bool) (rows columns : ℕ) (p : List ℕ) (board : Board p 
   module _ (layout : List Bool) (fit : Fits (neighbours edgeless rows columns) p layout) where
     -- the sweeps over the equations hold what the direct rule finds
     direct-held : (d : Lists) → d ≡ sweptLists (plainEquations (neighbours edgeless rows columns) p) → HoldsFound d (direct (frontier (neighbours edgeless rows columns) p))
+    unfolding listsOf
     direct-held d is =
         let none = direct-sound .no-contradiction layout fit in
+        let once = neighbours-nodup edgeless rows columns in
+        let es = plainEquations near p in
         record {
-          safe = sureSafe (plainEquations near p);
-          mines = sureMines (plainEquations near p);
-          is = is;
-          same-safe = swept-safe near p (neighbours-nodup edgeless rows columns) none;
-          same-mines = swept-mines near p (neighbours-nodup edgeless rows columns) none;
-          safe-once = sure-safe-once (plainEquations near p);
-          mines-once = sure-mines-once (plainEquations near p);
+          safe = record { list = sureSafe es; is = ap (λ (l : Lists). l .safe) is; same = swept-safe near p once none; once = sure-safe-once es };
+          mines = record { list = sureMines es; is = ap (λ (l : Lists). l .mines) is; same = swept-mines near p once none; once = sure-mines-once es };
         }
 
     -- subtraction's lists are what the rule finds
     subtraction-held : (m : Lists) → m ≡ minusLists (frontier (neighbours edgeless rows columns) p) → HoldsFound m (subtraction (frontier (neighbours edgeless rows columns) p))
+    unfolding listsOf
     subtraction-held m is =
         let bs = frontier near p in
         let none = sym (subtraction-contradiction bs) ∙ subtraction-sound .no-contradiction layout fit in
         let ready = frontier-ready near p in
+        let safe-is : m .safe ≡ cellList (subtraction bs .safe) = rw (subtraction-safe-swept bs ready none) (ap (λ (l : Lists). l .safe) is) in
+        let mines-are : m .mines ≡ cellList (subtraction bs .mines) = rw (subtraction-mines-swept bs ready none) (ap (λ (l : Lists). l .mines) is) in
         record {
-          safe = subtraction bs .safe;
-          mines = subtraction bs .mines;
-          is = rw (subtraction-safe-swept bs ready none, subtraction-mines-swept bs ready none) is;
-          same-safe = λ c. refl;
-          same-mines = λ c. refl;
-          safe-once = listed-once near p (subtraction bs .safe) (subtraction-sound .safe-among);
-          mines-once = listed-once near p (subtraction bs .mines) (subtraction-sound .mines-among);
+          safe = holds-list near p (m .safe) (subtraction bs .safe) (subtraction-sound .safe-among) safe-is;
+          mines = holds-list near p (m .mines) (subtraction bs .mines) (subtraction-sound .mines-among) mines-are;
         }
 
     -- and so are enumeration's
     enumeration-held : (e : Lists) → e ≡ listsIn (ruleAnswer (enumerated (frontier (neighbours edgeless rows columns) p)))
         → HoldsFound e (enumerated (frontier (neighbours edgeless rows columns) p))
-    unfolding ruleAnswer listsOf
+    unfolding ruleAnswer
     enumeration-held e is =
         let bs = frontier near p in
         record {
-          safe = enumerated bs .safe;
-          mines = enumerated bs .mines;
-          is = is;
-          same-safe = λ c. refl;
-          same-mines = λ c. refl;
-          safe-once = listed-once near p (enumerated bs .safe) (enumeration-sound .safe-among);
-          mines-once = listed-once near p (enumerated bs .mines) (enumeration-sound .mines-among);
+          safe = holds-list near p (e .safe) (enumerated bs .safe) (enumeration-sound .safe-among) (ap (λ (l : Lists). l .safe) is);
+          mines = holds-list near p (e .mines) (enumerated bs .mines) (enumeration-sound .mines-among) (ap (λ (l : Lists). l .mines) is);
         }
 
     module _ (d : Lists) (direct-is : d ≡ sweptLists (plainEquations (neighbours edgeless rows columns) p)) where

@@ -5,6 +5,7 @@ use direct::answer::lists_of;
 use direct::direct::direct_cells;
 use enumeration::enumerate::enumerate_rule;
 use frontier::read_blocks;
+use marks::listing::CellList;
 use sources::equations::read_equations;
 use subtraction::minus_cells;
 ghost use mathlib.Core.Path.{_≡_};
@@ -23,12 +24,10 @@ ghost use Rattle.enumeration.specs.Enumeration.{enumerated};
 ghost use Rattle.enumeration.specs.ThreeRules.{threeRules};
 ghost use Rattle.verdict.specs.Findings.{Finds, gradedFinding, foundCell, laterFinding};
 
-// Two lists of cells with their counts, and a grade.
+// Two lists of cells, and a grade.
 pub struct Finding {
-    pub safe: [u16; 1024],
-    pub safe_count: usize,
-    pub mines: [u16; 1024],
-    pub mine_count: usize,
+    pub safe: CellList,
+    pub mines: CellList,
     pub grade: usize,
 }
 
@@ -38,21 +37,15 @@ fn graded(found: Lists, grade: usize) -> Finding
 {
     let safe = found.safe;
     let mines = found.mines;
-    Finding {
-        safe,
-        safe_count: found.safe_count,
-        mines,
-        mine_count: found.mine_count,
-        grade,
-    }
+    Finding { safe, mines, grade }
 }
 
 // Did a rule find a cell?
 fn found_cell(found: Lists) -> bool
     ensures { λ r. ⌜ r ≡ foundCell found ⌝ }
 {
-    if found.safe_count == 0 {
-        found.mine_count != 0
+    if found.safe.count == 0 {
+        found.mines.count != 0
     } else {
         true
     }

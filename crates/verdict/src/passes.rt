@@ -86,22 +86,22 @@ pub fn run_passes(
         let found = find_cells(edgeless, rows, columns, position);
         let safe = found.safe;
         let mines = found.mines;
-        if found.safe_count + found.mine_count == 0 {
+        if safe.count + mines.count == 0 {
             return Ending {
                 yes: false,
                 grade,
                 rounds,
             };
         }
-        write_at_cells(&mines, found.mine_count, 11, position);
+        write_at_cells(&mines.cells, mines.count, 11, position);
         refresh_board(
             edgeless,
             rows,
             columns,
             board,
             position,
-            &safe,
-            found.safe_count,
+            &safe.cells,
+            safe.count,
         );
         grade = greater(grade, found.grade);
         rounds += 1;

@@ -18,10 +18,10 @@ abbrev start : tie.After-subtract-blocks → tie.Start
 start c = c .before .before .before .before .before .before .before .before .before
 
 abbrev marks : tie.After-list-blocks → tie.After-subtract-blocks
-marks c = c .before .before .before .before .before .before .before
+marks c = c .before .before .before .before .before .before
 
 abbrev list : tie.After-list-blocks2 → tie.After-list-blocks
-list c = c .before .before .before .before .before
+list c = c .before .before .before .before
 
 -- ---- the needs
 
@@ -42,17 +42,17 @@ subtract-blocks-requires c κs =
 
 list-blocks-requires : tie.Need-list-blocks-requires
 list-blocks-requires c κs =
-    let m = c .before .before .before .before .before .before in
+    let m = c .before .before .before .before .before in
     let s = start m in
     let told = m .subtract-blocks .ensures .1 in
-    (parts (s .args .set) (s .pre .0), (refl, mines-fit (s .args .set) (s .pre .0) (s .pre .1) _ (m .subtract-blocks .last .1 .1 .1 .1 .1 .0) (told .0) (told .1)))
+    (parts (s .args .set) (s .pre .0), mines-fit (s .args .set) (s .pre .0) (s .pre .1) _ (m .subtract-blocks .last .1 .1 .1 .1 .1 .0) (told .0) (told .1))
 
 list-blocks-requires-2 : tie.Need-list-blocks-requires-2
 list-blocks-requires-2 c κs =
-    let m = marks (c .before .before .before .before) in
+    let m = marks (c .before .before .before) in
     let s = start m in
     let told = m .subtract-blocks .ensures .1 in
-    (parts (s .args .set) (s .pre .0), (refl, safe-fit (s .args .set) (s .pre .0) (s .pre .1) (m .subtract-blocks .last .1 .1 .1 .1 .0) _ (told .0) (told .1)))
+    (parts (s .args .set) (s .pre .0), safe-fit (s .args .set) (s .pre .0) (s .pre .1) (m .subtract-blocks .last .1 .1 .1 .1 .0) _ (told .0) (told .1))
 
 marked-in-one-requires : tie.Need-marked-in-one-requires
 marked-in-one-requires c κs = search needs
@@ -65,7 +65,7 @@ returns c =
     let s = start m in
     let told = m .subtract-blocks .ensures .1 in
     subtracted (s .args .set) (s .pre .0) (s .pre .1) (m .subtract-blocks .last .1 .1 .1 .1 .0) (m .subtract-blocks .last .1 .1 .1 .1 .1 .0) (told .0) (told .1)
-    _ (k .ensures) _ (list l .list-blocks .ensures .1) _ (list l .list-blocks .ensures .0) _ (l .list-blocks2 .ensures .1) _ (l .list-blocks2 .ensures .0)
+    _ (k .ensures) _ (list l .list-blocks .ensures) _ (l .list-blocks2 .ensures)
 
 pub subtract-spec : {M : Type 1} → statement M
 subtract-spec =

@@ -67,7 +67,7 @@ left-made c =
     c .left-blocks .ensures .0
     ∙ ap blockSet
     (left-of-all (all-blocks c) (s .pre .1) (s .pre .0 .fits .on-board) (r .«mine_marks») (r .«safe_marks») _
-    (rw (w .mines-are) at (w .mines-listed .shown)) (rw (w .safe-are) at (w .safe-listed .shown)) (c .before .before .before .marked-in-one .ensures))
+    (w .mines-marked) (w .safe-marked) (c .before .before .before .marked-in-one .ensures))
 
 -- and reads as that
 left-read : (c : tie.After-left-blocks) → blocksOf (c .left-blocks .result) ≡ map directLeft (all-blocks c)

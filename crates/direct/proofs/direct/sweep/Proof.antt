@@ -1,7 +1,7 @@
 -- `rules::direct::sweep` meets its contract: the two sweeps list the mines and the safe cells of the equations. Rests on the laws of listed cells. Assumes
 -- nothing.
 use Rattle.blocks.proofs.MarkLaws.{marks-none}
-use Rattle.direct.proofs.ListedCells.{listed-none}
+use Rattle.direct.proofs.ListedCells.{listed-none, listed-is}
 use Rattle.direct.proofs.direct.sweep.Statement.{statement}
 use Rattle.direct.proofs.direct.sweep.Tie as tie
 
@@ -15,12 +15,13 @@ sweep-safe-requires c κs =
 
 returns : tie.Need-returns
 returns c =
-    let m = c .before .before .before .before in
+    let (safe, safe-are) = c .sweep-safe .ensures in
+    let (mines, mines-are) = c .before .before .before .before .sweep-mines .ensures in
     record {
-      safe-listed = c .sweep-safe .ensures .0;
-      safe-are = c .sweep-safe .ensures .1;
-      mines-listed = m .sweep-mines .ensures .0;
-      mines-are = m .sweep-mines .ensures .1;
+      safe-marked = rw safe-are at (safe .shown);
+      safe-are = listed-is _ _ _ safe _ safe-are;
+      mines-marked = rw mines-are at (mines .shown);
+      mines-are = listed-is _ _ _ mines _ mines-are;
     }
 
 pub sweep-spec : {M : Type 1} → statement M

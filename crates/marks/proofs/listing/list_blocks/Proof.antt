@@ -1,9 +1,12 @@
 -- `marks::listing::list_blocks` meets its contract. The loop's invariant: the marked cells of the first b blocks, from the last block to the first, stored from
 -- place k on, give what those of all blocks give from the start. The measure is b. Rests on the laws of `Storing`. Assumes nothing.
 use Prim.Native.Nat.{ℕ, _-_, _≤_}
+use mathlib.Core.Path.{refl}
 use mathlib.Core.List.{[], _∷_}
 use native.Mathlib.Omega.{arith}
-use lib.ListN.{getD}
+use native.Mathlib.Nat.{zero-add}
+use lib.ListN.{length, getD, replicate}
+use Rattle.lists.proofs.Joined.{filled-sets}
 use Rattle.lists.proofs.Storing.{Storing, storing-start}
 use Rattle.blocks.specs.BlockSets.{beginAt}
 use Rattle.marks.specs.Marked.{cellsWith, allWith}
@@ -14,13 +17,13 @@ use Rattle.lists.proofs.StoredAndKept.{run-room, run-next, run-end}
 use borrow.Author.Needs.{needs}
 
 abbrev Inv-loop : tie.InvT-loop
-Inv-loop cells cell-ends blocks marks out₀ k₀ b₀ out k b = (b ≤ blocks) × Storing 1024 1 (λ (x : ℕ). x ∷ []) out₀ 0 (allWith marks cells cell-ends blocks) out k (allWith marks cells cell-ends b)
+Inv-loop cells cell-ends blocks marks out₀ k₀ b₀ out k b = (b ≤ blocks) × Storing 1024 1 (λ (x : ℕ). x ∷ []) (replicate 1024 0) 0 (allWith marks cells cell-ends blocks) out k (allWith marks cells cell-ends b)
 
 abbrev μ-loop : tie.MeasureT-loop
 μ-loop cells cell-ends blocks marks out₀ k₀ b₀ out k b = b
 
 loop-holds : tie.Need-loop-holds Inv-loop μ-loop
-loop-holds c = (search needs, storing-start (c .pre .1 .0))
+loop-holds c = (search needs, storing-start refl)
 
 sub-b : tie.Need-sub-b Inv-loop μ-loop
 sub-b c = search needs
@@ -46,7 +49,7 @@ list-cells-requires c κs =
     let before = allWith (s .args .marks .now) (s .args .cells .now) (s .args .cell-ends .now) (loop .b - 1) in
     rw (c .before .wide .ensures, c .before .before .before .begin-at .ensures) (
       s .pre .0 .in-cells (loop .b - 1) (omega (arith, loop .inv .0, test)),
-      (loop .inv .1 .long, run-room (loop .inv .1) last before (all-last (s .args .marks .now) (s .args .cells .now) (s .args .cell-ends .now) (loop .b) test) 1024 (omega (arith, s .pre .1 .1))),
+      (loop .inv .1 .long, run-room (loop .inv .1) last before (all-last (s .args .marks .now) (s .args .cells .now) (s .args .cell-ends .now) (loop .b) test) 1024 (omega (arith, s .pre .1))),
     )
 
 loop-less : tie.Need-loop-less Inv-loop μ-loop
@@ -67,7 +70,7 @@ returns c =
     let s = c .before .before in
     let loop = c .before .loop in
     let end = run-end (loop .inv .1) (all-none (s .args .marks .now) (s .args .cells .now) (s .args .cell-ends .now) (loop .b) (c .loop-test .left)) in
-    (omega (arith, end .0), end .1)
+    rw (end .0, end .1, filled-sets {A = ℕ} 1024 0 _ (s .pre .1), zero-add (length (allWith (s .args .marks .now) (s .args .cells .now) (s .args .cell-ends .now) (s .args .blocks))))
 
 pub list-blocks-spec : {M : Type 1} → statement M
 list-blocks-spec =

@@ -4,9 +4,10 @@ use mathlib.Core.Path.{_≡_, refl, sym, _∙_}
 use Prim.Native.Nat.{_-_}
 use native.Mathlib.Omega.{arith}
 use borrow.Author.Needs.{needs}
-use lib.ListN.{length, take}
+use lib.ListN.{length}
 use Rattle.grid.specs.Window.{neighbours}
 use Rattle.fitting.specs.Boards.{own}
+use Rattle.marks.specs.CellLists.{listIn}
 use Rattle.enumeration.specs.ThreeRules.{threeRules}
 use Rattle.verdict.proofs.FromStart.{few, start-small, start-below, first-own, first-board, first-passes}
 use Rattle.verdict.proofs.Underway.{underway-first, ends-open, ends-last}
@@ -93,11 +94,11 @@ same-length-3 : tie.Need-same-length-3 Inv-loop μ-loop
 same-length-3 c = search needs
 
 same-length-4 : tie.Need-same-length-4 Inv-loop μ-loop
-same-length-4 c = as-long (c .before .before .before .before .before .before .before .before .before .before)
+same-length-4 c = as-long (c .before .before .before .before .before .before .before .before .before)
 
 returns-2 : tie.Need-returns-2 Inv-loop μ-loop
 returns-2 c =
-    let asked = c .before .before .before .before in
+    let asked = c .before .before .before in
     let tested = asked .before .before .before in
     let l = tested .before .before .before .loop in
     let s = called (tested .before .before .before) in
@@ -112,18 +113,18 @@ write-at-cells-requires c κs =
     let l = asked .before .before .before .before .before .before .loop in
     let s = called (asked .before .before .before .before .before .before) in
     let found = asked .find-cells .ensures in
-    ((found .mines-long, found .few-mines), rw (position-board _ (s .pre .0 .0) (l .inv) .whole) (found .mines-below))
+    ((found .mines-below .long, found .mines-below .few), rw (position-board _ (s .pre .0 .0) (l .inv) .whole) (found .mines-below .below))
 
 refresh-board-requires-2 : tie.Need-refresh-board-requires-2 Inv-loop μ-loop
 refresh-board-requires-2 c κs =
-    let marked = c .before .before .before .before in
+    let marked = c .before .before .before .before .before in
     let asked = marked .before .before .before .before .before .before .before in
     let l = asked .before .before .before .before .before .before .loop in
     let s = called (asked .before .before .before .before .before .before) in
     let r = asked .find-cells .result in
     let found = asked .find-cells .ensures in (
-      (s .pre .0 .0, marked-board _ (s .pre .0 .0) (l .inv) _ (take (r .«mine_count») (r .mines)) (marked .write-at-cells .ensures)),
-      (s .pre .1 .0, (found .few-safe, found .safe-long, found .safe-below)),
+      (s .pre .0 .0, marked-board _ (s .pre .0 .0) (l .inv) _ (listIn (r .mines)) (marked .write-at-cells .ensures)),
+      (s .pre .1 .0, (found .safe-below .few, found .safe-below .long, found .safe-below .below)),
     )
 
 greater-requires : tie.Need-greater-requires Inv-loop μ-loop
@@ -131,14 +132,14 @@ greater-requires c κs = search needs
 
 add-rounds : tie.Need-add-rounds Inv-loop μ-loop
 add-rounds c =
-    let tested = c .before .before .before .before .before .before .before .before .before .before .before .before .before .before .before .before .before .before in
+    let tested = c .before .before .before .before .before .before .before .before .before .before .before .before .before .before .before .before .before .before .before in
     let l = tested .before .before .before .loop in
     let s = called (tested .before .before .before) in
     omega (arith, few-rounds _ (s .pre .0 .0) (l .inv) (tested .before .before .loop-test .taken))
 
 add-k : tie.Need-add-k Inv-loop μ-loop
 add-k c =
-    let tested = c .before .before .before .before .before .before .before .before .before .before .before .before .before .before .before .before .before .before in
+    let tested = c .before .before .before .before .before .before .before .before .before .before .before .before .before .before .before .before .before .before .before in
     let s = called (tested .before .before .before) in
     omega (arith, few (s .pre .0 .0), tested .before .before .loop-test .taken)
 
@@ -148,14 +149,14 @@ loop-less c = search needs
 loop-again : tie.Need-loop-again Inv-loop μ-loop
 loop-again c =
     let flooded = c .before .before .before in
-    let marked = flooded .before .before .before .before .before in
+    let marked = flooded .before .before .before .before .before .before in
     let asked = marked .before .before .before .before .before .before .before in
     let tested = asked .before .before .before in
     let l = tested .before .before .before .loop in
     let s = called (tested .before .before .before) in
     let shut = sym (tested .all-open .ensures) ∙ asked .before .before .if1 .left in
     found-cells _ (s .pre .0 .0) (l .inv) (tested .before .before .loop-test .taken) shut (asked .find-cells .result) (asked .find-cells .ensures)
-    (s .pre .1 .0) (marked .before .before .before .if2 .left) _ (marked .write-at-cells .ensures) _ (flooded .refresh-board2 .ensures) _ (c .greater .ensures)
+    (s .pre .1 .0) (marked .before .before .before .before .if2 .left) _ (marked .write-at-cells .ensures) _ (flooded .refresh-board2 .ensures) _ (c .greater .ensures)
 
 all-open-requires-2 : tie.Need-all-open-requires-2 Inv-loop μ-loop
 all-open-requires-2 c κs =
