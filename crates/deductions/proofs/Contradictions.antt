@@ -42,9 +42,9 @@ use Rattle.subtraction.specs.Minus.{subtraction}
 use Rattle.subtraction.proofs.MinusLaws.{subtraction-no-contradiction}
 use Rattle.enumeration.specs.Enumeration.{enumerated}
 use Rattle.enumeration.proofs.NoSolution.{enumeration-contradiction-at}
-use Rattle.deductions.specs.Answers.{Seen, seen, refusedAnswer, afterTests, deduction}
+use Rattle.deductions.specs.Answers.{Seen, seen, refusedAnswer, deductionAfterTests, deduction}
 use Rattle.deductions.specs.Contradictions.{Placing, NoPlacing, TestsPass}
-use Rattle.deductions.specs.ByRule.{ruleOn, Refuses}
+use Rattle.deductions.specs.ByRule.{ruleOn, RefusesBy}
 use Rattle.deductions.specs.declared.Rule.{Rule}
 use Rattle.deductions.specs.declared.Rule.the-variants.{Direct, Minus, Enumerate}
 use Rattle.deductions.specs.declared.answer.DeductionAnswer.{DeductionAnswer}
@@ -73,7 +73,7 @@ numberOf w = testedNumber (w .answer .tested)
 
 module _ (f : Found) (p s m : List ℕ) (r : DeductionAnswer) (p′ s′ m′ : List ℕ) where
   -- refusal 6 is the rule's, where the tests do not give it
-  six-from-rule : (t : Tested) → (testedNumber t ≡ 6 → ⊥) → seen r p′ s′ m′ ≡ afterTests t f p s m → testedNumber (r .tested) ≡ 6
+  six-from-rule : (t : Tested) → (testedNumber t ≡ 6 → ⊥) → seen r p′ s′ m′ ≡ deductionAfterTests t f p s m → testedNumber (r .tested) ≡ 6
       → (t ≡ Accepted) × (f .contradiction ≡ true)
   unfolding refusedAnswer
   six-from-rule (Refused x) never e a = absurd (never (sym (ap numberOf e) ∙ a))
@@ -84,7 +84,7 @@ module _ (f : Found) (p s m : List ℕ) (r : DeductionAnswer) (p′ s′ m′ : 
       go (inr k) = absurd (omega (arith, ap numberOf (e ∙ after-lists f p s m k)))
 
   -- and the rule's is the call's, where they accept
-  six-from-call : (t : Tested) → seen r p′ s′ m′ ≡ afterTests t f p s m → t ≡ Accepted → f .contradiction ≡ true → testedNumber (r .tested) ≡ 6
+  six-from-call : (t : Tested) → seen r p′ s′ m′ ≡ deductionAfterTests t f p s m → t ≡ Accepted → f .contradiction ≡ true → testedNumber (r .tested) ≡ 6
   unfolding refusedAnswer
   six-from-call (Refused x) e a k = not-both (Refused x) x a refl
   six-from-call Accepted e a k = ap numberOf (e ∙ after-contradiction f p s m k)
@@ -138,7 +138,7 @@ module _ (edgeless : Bool) (rows columns : ℕ) (p : List ℕ) where
 -- ---- the calls
 
 module _ (edgeless : Bool) (rows columns : ℕ) (p s m : List ℕ) (r : DeductionAnswer) (p′ s′ m′ : List ℕ) where
-  pub call-refuses-by-rule : (rule : Rule) → seen r p′ s′ m′ ≡ deduction (ruleOn rule) edgeless rows columns p s m → Refuses rule edgeless rows columns p s m (testedNumber (r .tested))
+  pub call-refuses-by-rule : (rule : Rule) → seen r p′ s′ m′ ≡ deduction (ruleOn rule) edgeless rows columns p s m → RefusesBy rule edgeless rows columns p s m (testedNumber (r .tested))
   call-refuses-by-rule Direct call =
       call-refuses direct (isContradictoryAt (neighbours edgeless rows columns) p ≡ true) edgeless rows columns p s m r p′ s′ m′ call (direct-meets edgeless rows columns p)
   call-refuses-by-rule Minus call =

@@ -27,7 +27,7 @@ use Rattle.direct.proofs.Soundness.{listed-few}
 use Rattle.direct.proofs.LeftFits.{direct-left-fits}
 use Rattle.subtraction.proofs.LeftFits.{subtraction-left-fits}
 use Rattle.enumeration.specs.Enumeration.{safeCells, mineCells, unsolvable, enumerated}
-use Rattle.deductions.specs.Answers.{refusedAnswer, refused, afterFound, afterTests, deduction}
+use Rattle.deductions.specs.Answers.{refusedAnswer, refused, afterFound, deductionAfterTests, deduction}
 use Rattle.deductions.specs.ByRule.{ruleOn, Readable}
 use Rattle.deductions.specs.declared.Rule.{Rule}
 use Rattle.deductions.specs.declared.Rule.the-variants.{Direct, Minus, Enumerate}
@@ -94,6 +94,6 @@ module _ (rule : Rule) (edgeless : Bool) (rows columns : ℕ) (p s m : List ℕ)
           (omega (arith, a .position .board .whole, a .safe-room)) (omega (arith, a .position .board .whole, a .mines-room))
           (left-fits rule (frontier near p) (frontier-fits edgeless rows columns p (a .position .board)))
 
-      go : (t : Tested) → deductionTested rows columns p (length s) (length m) ≡ t → Readable (afterTests t finds p s m)
+      go : (t : Tested) → deductionTested rows columns p (length s) (length m) ≡ t → Readable (deductionAfterTests t finds p s m)
       go Accepted e = accepted-readable (accepted-deduction rows columns p (length s) (length m) e)
       go (Refused x) e = refused-readable x p s m

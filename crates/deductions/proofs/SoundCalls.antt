@@ -35,9 +35,9 @@ use Rattle.marks.proofs.WrittenCells.{written-length, written-shows, written-el
 use Rattle.direct.specs.Found.{Found}
 use Rattle.direct.proofs.Soundness.{SoundAt, listed-closed, listed-once, listed-few, listed-apart}
 use Rattle.enumeration.proofs.Completeness.{enumeration-complete-at}
-use Rattle.deductions.specs.Answers.{Seen, seen, refusedAnswer, refused, afterTests, deduction}
+use Rattle.deductions.specs.Answers.{Seen, seen, refusedAnswer, refused, deductionAfterTests, deduction}
 use Rattle.deductions.specs.Calls.{ListsTrue, OnlyMarked, AllKept, SoundCall, AmongFirst, CompleteCall}
-use Rattle.deductions.specs.ByRule.{ruleOn, Completes}
+use Rattle.deductions.specs.ByRule.{ruleOn, CompleteBy}
 use Rattle.deductions.specs.declared.Rule.{Rule}
 use Rattle.deductions.specs.declared.Rule.the-variants.{Direct, Minus, Enumerate}
 use Rattle.deductions.specs.declared.answer.DeductionAnswer.{DeductionAnswer}
@@ -112,7 +112,7 @@ record Gave (f : Found) (p s m : List ℕ) (r : DeductionAnswer) (p′ s′ m′
 
 module _ (f : Found) (p s m : List ℕ) (r : DeductionAnswer) (p′ s′ m′ : List ℕ) where
   -- it is accepted only where the tests accept and the rule meets no contradiction
-  gave : (t : Tested) → seen r p′ s′ m′ ≡ afterTests t f p s m → r .tested ≡ Accepted → (t ≡ Accepted) × Gave f p s m r p′ s′ m′
+  gave : (t : Tested) → seen r p′ s′ m′ ≡ deductionAfterTests t f p s m → r .tested ≡ Accepted → (t ≡ Accepted) × Gave f p s m r p′ s′ m′
   unfolding refusedAnswer
   gave (Refused x) e a = not-both (r .tested) x a (ap (λ (v : Seen). v .answer .tested) e)
   gave Accepted e a = (refl, go (decided (f .contradiction)))
@@ -131,7 +131,7 @@ module _ (f : Found) (p s m : List ℕ) (r : DeductionAnswer) (p′ s′ m′ : 
           }
 
   -- a refusal is its name alone, whoever gives it, and the slices are as they were
-  pub refused-alone : (t : Tested) → seen r p′ s′ m′ ≡ afterTests t f p s m → (x : Refusal) → r .tested ≡ Refused x → seen r p′ s′ m′ ≡ refused x p s m
+  pub refused-alone : (t : Tested) → seen r p′ s′ m′ ≡ deductionAfterTests t f p s m → (x : Refusal) → r .tested ≡ Refused x → seen r p′ s′ m′ ≡ refused x p s m
   unfolding refusedAnswer
   refused-alone (Refused y) e x a =
       let same : Refused x ≡ Refused y = sym a ∙ ap (λ (v : Seen). v .answer .tested) e in
@@ -148,7 +148,7 @@ module _ (f : Found) (p s m : List ℕ) (r : DeductionAnswer) (p′ s′ m′ : 
       go (inr k) = not-both (r .tested) x (ap (λ (v : Seen). v .answer .tested) (e ∙ after-lists f p s m k)) a
 
   -- so a number that is not 0 says that these are kept
-  kept : (t : Tested) → seen r p′ s′ m′ ≡ afterTests t f p s m → testedNumber (r .tested) ≢ 0 → AllKept p s m p′ s′ m′
+  kept : (t : Tested) → seen r p′ s′ m′ ≡ deductionAfterTests t f p s m → testedNumber (r .tested) ≢ 0 → AllKept p s m p′ s′ m′
   kept t e n =
       let (x, a) = else-refused (r .tested) n in
       let alone = refused-alone t e x a in
@@ -159,13 +159,13 @@ module _ (f : Found) (p s m : List ℕ) (r : DeductionAnswer) (p′ s′ m′ : 
       }
 
   -- the tests' refusal is the call's
-  refused-by-tests : (t : Tested) → seen r p′ s′ m′ ≡ afterTests t f p s m → (x : Refusal) → t ≡ Refused x → r .tested ≡ Refused x
+  refused-by-tests : (t : Tested) → seen r p′ s′ m′ ≡ deductionAfterTests t f p s m → (x : Refusal) → t ≡ Refused x → r .tested ≡ Refused x
   unfolding refusedAnswer
   refused-by-tests (Refused y) e x a = ap (λ (v : Seen). v .answer .tested) e ∙ a
   refused-by-tests Accepted e x a = not-both Accepted x refl a
 
   -- and it is accepted where the tests accept and the rule meets no contradiction
-  accepted : (t : Tested) → seen r p′ s′ m′ ≡ afterTests t f p s m → t ≡ Accepted → f .contradiction ≡ false → r .tested ≡ Accepted
+  accepted : (t : Tested) → seen r p′ s′ m′ ≡ deductionAfterTests t f p s m → t ≡ Accepted → f .contradiction ≡ false → r .tested ≡ Accepted
   accepted (Refused x) e a k = not-both (Refused x) x a refl
   accepted Accepted e a k = ap (λ (v : Seen). v .answer .tested) (e ∙ after-lists f p s m k)
 
@@ -298,7 +298,7 @@ module _ (edgeless : Bool) (rows columns : ℕ) (p s m : List ℕ) (r : Deductio
       }
 
   pub call-complete : (rule : Rule) → seen r p′ s′ m′ ≡ deduction (ruleOn rule) edgeless rows columns p s m
-      → Completes rule edgeless rows columns p s m (testedNumber (r .tested)) (r .safe) (r .mines) s′ m′
+      → CompleteBy rule edgeless rows columns p s m (testedNumber (r .tested)) (r .safe) (r .mines) s′ m′
   call-complete Direct call = tt
   call-complete Minus call = tt
   call-complete Enumerate call = enumerate-call-complete call

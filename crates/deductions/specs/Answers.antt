@@ -65,14 +65,14 @@ afterFound f p s m =
     (sets m 0 (f .mines)))
 
 -- refusals 1 to 3 first
-abbrev pub afterTests : Tested → Found → List ℕ → List ℕ → List ℕ → Seen
-afterTests Accepted f p s m = afterFound f p s m
-afterTests (Refused r) f p s m = refused r p s m
+abbrev pub deductionAfterTests : Tested → Found → List ℕ → List ℕ → List ℕ → Seen
+deductionAfterTests Accepted f p s m = afterFound f p s m
+deductionAfterTests (Refused r) f p s m = refused r p s m
 
 -- a rule called on a position: it reads a fresh frontier
 abbrev pub deduction : (List Block → Found) → Bool → ℕ → ℕ → List ℕ → List ℕ → List ℕ → Seen
 deduction rule edgeless rows columns p s m =
-    afterTests (deductionTested rows columns p (length s) (length m)) (rule (frontier (neighbours edgeless rows columns) p)) p s m
+    deductionAfterTests (deductionTested rows columns p (length s) (length m)) (rule (frontier (neighbours edgeless rows columns) p)) p s m
 
 abbrev pub solveDirect : Bool → ℕ → ℕ → List ℕ → List ℕ → List ℕ → Seen
 solveDirect edgeless rows columns p s m = deduction direct edgeless rows columns p s m

@@ -25,18 +25,18 @@ ruleOn Minus = subtraction
 ruleOn Enumerate = enumerated
 
 -- enumeration is complete where the tests pass and some layout fits; of the other rules nothing is said
-abbrev pub Completes : Rule → Bool → ℕ → ℕ → List ℕ → List ℕ → List ℕ → ℕ → ℕ → ℕ → List ℕ → List ℕ → Type 0
-Completes Direct edgeless rows columns p s m number safe mines s′ m′ = Unit {0}
-Completes Minus edgeless rows columns p s m number safe mines s′ m′ = Unit {0}
-Completes Enumerate edgeless rows columns p s m number safe mines s′ m′ =
+abbrev pub CompleteBy : Rule → Bool → ℕ → ℕ → List ℕ → List ℕ → List ℕ → ℕ → ℕ → ℕ → List ℕ → List ℕ → Type 0
+CompleteBy Direct edgeless rows columns p s m number safe mines s′ m′ = Unit {0}
+CompleteBy Minus edgeless rows columns p s m number safe mines s′ m′ = Unit {0}
+CompleteBy Enumerate edgeless rows columns p s m number safe mines s′ m′ =
     TestsPass rows columns p s m → (layout : List Bool) → Fits (neighbours edgeless rows columns) p layout
     → CompleteCall (neighbours edgeless rows columns) p number safe mines s′ m′
 
 -- where the call refuses with 6
-abbrev pub Refuses : Rule → Bool → ℕ → ℕ → List ℕ → List ℕ → List ℕ → ℕ → Type 0
-Refuses Direct = DirectRefuses
-Refuses Minus = MinusRefuses
-Refuses Enumerate = EnumerateRefuses
+abbrev pub RefusesBy : Rule → Bool → ℕ → ℕ → List ℕ → List ℕ → List ℕ → ℕ → Type 0
+RefusesBy Direct = DirectRefuses
+RefusesBy Minus = MinusRefuses
+RefusesBy Enumerate = EnumerateRefuses
 
 -- what can be read of an answer: the counts are within the lists, and the blocks are whole
 pub record Readable (w : Seen) : Type 0 where

@@ -31,7 +31,7 @@ ghost use Rattle.groups.specs.Grouping.{Combinable};
 ghost use Rattle.deductions.specs.Answers.{seen, deduction, solveDirect, solveMinus, solveEnumerate};
 ghost use Rattle.deductions.specs.Calls.{SoundCall, CompleteCall};
 ghost use Rattle.deductions.specs.Contradictions.{DirectRefuses, MinusRefuses, EnumerateRefuses};
-ghost use Rattle.deductions.specs.ByRule.{ruleOn, Completes, Refuses};
+ghost use Rattle.deductions.specs.ByRule.{ruleOn, CompleteBy, RefusesBy};
 
 // The rules that can be called on a position.
 pub enum Rule {
@@ -68,9 +68,9 @@ pub fn deduce(
     ensures { λ r. ⌜ seen r (now (position .exit)) (now (safe .exit)) (now (mines .exit)) ≡ deduction (ruleOn rule) edgeless rows columns (now (position .entry)) (now (safe .entry)) (now (mines .entry)) ⌝ }
     ensures sound { λ r. ⌜ SoundCall edgeless rows columns (now (position .entry)) (now (safe .entry)) (now (mines .entry))
         (testedNumber (r .tested)) (r .safe) (r .mines) (now (position .exit)) (now (safe .exit)) (now (mines .exit)) ⌝ }
-    ensures complete { λ r. ⌜ Completes rule edgeless rows columns (now (position .entry)) (now (safe .entry)) (now (mines .entry))
+    ensures complete { λ r. ⌜ CompleteBy rule edgeless rows columns (now (position .entry)) (now (safe .entry)) (now (mines .entry))
         (testedNumber (r .tested)) (r .safe) (r .mines) (now (safe .exit)) (now (mines .exit)) ⌝ }
-    ensures six { λ r. ⌜ Refuses rule edgeless rows columns (now (position .entry)) (now (safe .entry)) (now (mines .entry)) (testedNumber (r .tested)) ⌝ }
+    ensures six { λ r. ⌜ RefusesBy rule edgeless rows columns (now (position .entry)) (now (safe .entry)) (now (mines .entry)) (testedNumber (r .tested)) ⌝ }
 {
     match test_deduction(rows, columns, position, safe.len(), mines.len()) {
         Tested::Accepted => {

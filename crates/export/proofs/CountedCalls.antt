@@ -12,7 +12,7 @@ use Rattle.refusals.specs.declared.Tested.the-variants.{Accepted, Refused}
 use Rattle.refusals.specs.Refusals.{refusalNumber, testedNumber}
 use Rattle.refusals.proofs.RefusalNumbers.{refusal-numbered}
 use Rattle.deductions.specs.Calls.{SoundCall, CompleteCall}
-use Rattle.deductions.specs.ByRule.{Completes}
+use Rattle.deductions.specs.ByRule.{CompleteBy}
 use Rattle.deductions.specs.declared.Rule.{Rule}
 use Rattle.deductions.specs.declared.Rule.the-variants.{Direct, Minus, Enumerate}
 use Rattle.tables.specs.declared.TableAnswer.{TableAnswer}
@@ -82,8 +82,8 @@ module _ (t : Tested) (a b : ℕ) (counts : List ℕ) {after : List ℕ} {n : �
     returned-sound = sound-counted after returned-number returned-counts
 
     -- and complete
-    pub returned-complete : (rule : Rule) (rows columns : ℕ) (p s m s′ m′ : List ℕ) → Completes rule flat rows columns p s m (testedNumber t) a b s′ m′
-        → Completes rule flat rows columns p s m n (getD after 0 0) (getD after 1 0) s′ m′
+    pub returned-complete : (rule : Rule) (rows columns : ℕ) (p s m s′ m′ : List ℕ) → CompleteBy rule flat rows columns p s m (testedNumber t) a b s′ m′
+        → CompleteBy rule flat rows columns p s m n (getD after 0 0) (getD after 1 0) s′ m′
     returned-complete Direct rows columns p s m s′ m′ c = tt
     returned-complete Minus rows columns p s m s′ m′ c = tt
     returned-complete Enumerate rows columns p s m s′ m′ c = λ tests layout fit. complete-counted after returned-number returned-counts (c tests layout fit)

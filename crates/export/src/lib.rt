@@ -32,7 +32,7 @@ ghost use Rattle.frontier.specs.Answer.{refreshMatrixs};
 ghost use Rattle.deductions.specs.Answers.{deduction, solveDirect, solveMinus, solveEnumerate};
 ghost use Rattle.deductions.specs.Calls.{SoundCall, CompleteCall};
 ghost use Rattle.deductions.specs.Contradictions.{DirectRefuses, MinusRefuses, EnumerateRefuses};
-ghost use Rattle.deductions.specs.ByRule.{ruleOn, Completes, Refuses};
+ghost use Rattle.deductions.specs.ByRule.{ruleOn, CompleteBy, RefusesBy};
 ghost use Rattle.tables.specs.Tables.{calAllSolution};
 ghost use Rattle.tables.specs.Listed.{TableCall};
 ghost use Rattle.patterns.specs.Answer.{unsolvableStructure};
@@ -83,9 +83,9 @@ fn deduce_counted(
         ≡ deductionReturned (deduction (ruleOn rule) flat rows columns (now (position .entry)) (now (safe .entry)) (now (mines .entry))) (now (counts .entry)) ⌝ }
     ensures sound { λ r. ⌜ (1 < length (now (counts .entry)) → SoundCall flat rows columns (now (position .entry)) (now (safe .entry)) (now (mines .entry))
         r (getD (now (counts .exit)) 0 0) (getD (now (counts .exit)) 1 0) (now (position .exit)) (now (safe .exit)) (now (mines .exit))) ⌝ }
-    ensures complete { λ r. ⌜ (1 < length (now (counts .entry)) → Completes rule flat rows columns (now (position .entry)) (now (safe .entry)) (now (mines .entry))
+    ensures complete { λ r. ⌜ (1 < length (now (counts .entry)) → CompleteBy rule flat rows columns (now (position .entry)) (now (safe .entry)) (now (mines .entry))
         r (getD (now (counts .exit)) 0 0) (getD (now (counts .exit)) 1 0) (now (safe .exit)) (now (mines .exit))) ⌝ }
-    ensures six { λ r. ⌜ Refuses rule flat rows columns (now (position .entry)) (now (safe .entry)) (now (mines .entry)) r ⌝ }
+    ensures six { λ r. ⌜ RefusesBy rule flat rows columns (now (position .entry)) (now (safe .entry)) (now (mines .entry)) r ⌝ }
 {
     let answer = deduce(rule, FLAT, rows, columns, position, safe, mines);
     let tested = answer.tested;

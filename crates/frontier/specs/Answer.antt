@@ -12,14 +12,14 @@ use Rattle.frontier.specs.declared.FrontierAnswer.{FrontierAnswer}
 use Rattle.frontier.specs.Frontier.{frontier, insideCells, knownMines}
 
 -- what the call answers once its tests have
-abbrev pub answerAfter : Tested → Bool → ℕ → ℕ → List ℕ → FrontierAnswer
-answerAfter Accepted edgeless rows columns p = record {
+abbrev pub frontierAfterTests : Tested → Bool → ℕ → ℕ → List ℕ → FrontierAnswer
+frontierAfterTests Accepted edgeless rows columns p = record {
   tested = Accepted;
   blocks = blockSet (frontier (neighbours edgeless rows columns) p);
   «inside_cell» = insideCells (neighbours edgeless rows columns) p;
   «is_minenum» = knownMines p;
 }
-answerAfter (Refused r) edgeless rows columns p = record { tested = Refused r; blocks = blockSet []; «inside_cell» = 0; «is_minenum» = 0 }
+frontierAfterTests (Refused r) edgeless rows columns p = record { tested = Refused r; blocks = blockSet []; «inside_cell» = 0; «is_minenum» = 0 }
 
 unfoldable pub refreshMatrixs : Bool → ℕ → ℕ → List ℕ → FrontierAnswer
-refreshMatrixs edgeless rows columns p = answerAfter (positionTested rows columns p) edgeless rows columns p
+refreshMatrixs edgeless rows columns p = frontierAfterTests (positionTested rows columns p) edgeless rows columns p

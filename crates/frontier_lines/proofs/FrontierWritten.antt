@@ -14,7 +14,7 @@ use Rattle.blocks.specs.BlockSets.{blocksOf, Whole}
 use Rattle.blocks.proofs.Behind.{set-whole, none-fits}
 use Rattle.frontier.specs.declared.FrontierAnswer.{FrontierAnswer}
 use Rattle.frontier.specs.Frontier.{frontier}
-use Rattle.frontier.specs.Answer.{answerAfter, refreshMatrixs}
+use Rattle.frontier.specs.Answer.{frontierAfterTests, refreshMatrixs}
 use Rattle.frontier.proofs.ReadFrontier.{frontier-fits}
 use Rattle.text.specs.Text.{decimal, Written}
 use Rattle.text.proofs.Writing.{written-within, written-both}
@@ -30,7 +30,7 @@ pub answer-whole : (rows columns : ℕ) (p : List ℕ) → Whole (refreshMatrixs
 unfolding refreshMatrixs
 answer-whole rows columns p = go (positionTested rows columns p) refl
   where
-    go : (t : Tested) → positionTested rows columns p ≡ t → Whole (answerAfter t flat rows columns p .blocks)
+    go : (t : Tested) → positionTested rows columns p ≡ t → Whole (frontierAfterTests t flat rows columns p .blocks)
     go Accepted e = set-whole (frontier (neighbours flat rows columns) p) _ refl (frontier-fits flat rows columns p (accepted-position rows columns p e .board))
     go (Refused r) e = set-whole [] _ refl none-fits
 

@@ -18,7 +18,7 @@ use Rattle.lists.proofs.Tests.{Decided, decided, clash, or-cases, or-right, sam
 use Rattle.lists.proofs.Collected.{keep-few}
 use Rattle.lists.proofs.Members.{has-head, has-tail, has-append, has-keep, kept-passes, kept-has, range-in, in-range, range-nodup, nodup-head, nodup-tail, nodup-keep, nodup-append}
 use Rattle.lists.proofs.Counts.{count-out}
-use Rattle.grid.specs.Window.{before, after, around, lowAt, highAt, block, neighbours, Sized, On}
+use Rattle.grid.specs.Window.{lineBefore, lineAfter, around, lowAt, highAt, block, neighbours, Sized, On}
 use Rattle.lists.proofs.Rearranged.{count-all, length-range}
 use Rattle.grid.proofs.Places.{few-cells, some-column}
 
@@ -31,7 +31,7 @@ pub record Near (i j : ℕ) : Type 0 where
 
 -- or, without an edge, are the first and the last
 abbrev pub NearOn : Bool → ℕ → ℕ → ℕ → Type 0
-NearOn true size i j = (j ≡ i) ⊎ ((j ≡ after size i) ⊎ (i ≡ after size j))
+NearOn true size i j = (j ≡ i) ⊎ ((j ≡ lineAfter size i) ⊎ (i ≡ lineAfter size j))
 NearOn false size i j = Near i j
 
 -- how many stand around i
@@ -43,10 +43,10 @@ span size i = min (i + 2) size - (i - 1)
 -- the line before i and the line after it, by whether i is the first or the last
 module _ (size i : ℕ) where
   abbrev Before : Type 0
-  Before = ((i ≡ 0) × (before size i ≡ size - 1)) ⊎ ((i ≢ 0) × (before size i ≡ i - 1))
+  Before = ((i ≡ 0) × (lineBefore size i ≡ size - 1)) ⊎ ((i ≢ 0) × (lineBefore size i ≡ i - 1))
 
   abbrev After : Type 0
-  After = ((i + 1 ≡ size) × (after size i ≡ 0)) ⊎ ((i + 1 ≢ size) × (after size i ≡ i + 1))
+  After = ((i + 1 ≡ size) × (lineAfter size i ≡ 0)) ⊎ ((i + 1 ≢ size) × (lineAfter size i ≡ i + 1))
 
   before-cases : Before
   before-cases = go (decided (eqb i 0))
@@ -64,30 +64,30 @@ module _ (size i : ℕ) where
 
 -- of at least 3 lines: each is the other's other way round, and the three lines are different lines of the side
 module _ (size i : ℕ) (wide : 3 ≤ size) (on : i < size) where
-  after-before : after size (before size i) ≡ i
-  after-before = go (before-cases size i) (after-cases size (before size i))
+  after-before : lineAfter size (lineBefore size i) ≡ i
+  after-before = go (before-cases size i) (after-cases size (lineBefore size i))
     where
-      go : Before size i → After size (before size i) → after size (before size i) ≡ i
+      go : Before size i → After size (lineBefore size i) → lineAfter size (lineBefore size i) ≡ i
       go (inl (z, e)) (inl (y, f)) = omega arith
       go (inl (z, e)) (inr (y, f)) = omega arith
       go (inr (z, e)) (inl (y, f)) = omega arith
       go (inr (z, e)) (inr (y, f)) = omega arith
 
-  before-after : before size (after size i) ≡ i
-  before-after = go (after-cases size i) (before-cases size (after size i))
+  before-after : lineBefore size (lineAfter size i) ≡ i
+  before-after = go (after-cases size i) (before-cases size (lineAfter size i))
     where
-      go : After size i → Before size (after size i) → before size (after size i) ≡ i
+      go : After size i → Before size (lineAfter size i) → lineBefore size (lineAfter size i) ≡ i
       go (inl (z, e)) (inl (y, f)) = omega arith
       go (inl (z, e)) (inr (y, f)) = omega arith
       go (inr (z, e)) (inl (y, f)) = omega arith
       go (inr (z, e)) (inr (y, f)) = omega arith
 
   record Apart : Type 0 where
-    before-below : before size i < size
-    after-below : after size i < size
-    before-other : before size i ≢ i
-    after-other : i ≢ after size i
-    before-after-other : before size i ≢ after size i
+    before-below : lineBefore size i < size
+    after-below : lineAfter size i < size
+    before-other : lineBefore size i ≢ i
+    after-other : i ≢ lineAfter size i
+    before-after-other : lineBefore size i ≢ lineAfter size i
 
   lines-apart : Apart
   lines-apart = go (before-cases size i) (after-cases size i)
@@ -100,7 +100,7 @@ module _ (size i : ℕ) (wide : 3 ≤ size) (on : i < size) where
 
 -- what stands around i: nothing, or the three lines
 abbrev Wraps : ℕ → ℕ → Type 0
-Wraps size i = (around true size i ≡ []) ⊎ (((3 ≤ size) × (i < size)) × (around true size i ≡ before size i ∷ i ∷ after size i ∷ []))
+Wraps size i = (around true size i ≡ []) ⊎ (((3 ≤ size) × (i < size)) × (around true size i ≡ lineBefore size i ∷ i ∷ lineAfter size i ∷ []))
 
 wraps-cases : (size i : ℕ) → Wraps size i
 unfolding around
@@ -135,9 +135,9 @@ around-in true size i x h = go (wraps-cases size i)
   where
     go : Wraps size i → (x < size) × NearOn true size i x
     go (inl e) = clash false (rw e at h) refl
-    go (inr ((w, on), e)) = which (three-cases (before size i) i (after size i) x (rw e at h))
+    go (inr ((w, on), e)) = which (three-cases (lineBefore size i) i (lineAfter size i) x (rw e at h))
       where
-        which : (x ≡ before size i) ⊎ ((x ≡ i) ⊎ (x ≡ after size i)) → (x < size) × NearOn true size i x
+        which : (x ≡ lineBefore size i) ⊎ ((x ≡ i) ⊎ (x ≡ lineAfter size i)) → (x < size) × NearOn true size i x
         which (inl y) = (rw y (lines-apart size i w on .before-below), inr (inr (rw y (sym (after-before size i w on)))))
         which (inr (inl y)) = (rw y on, inl y)
         which (inr (inr y)) = (rw y (lines-apart size i w on .after-below), inr (inl y))
@@ -153,10 +153,10 @@ in-around true size i x wraps below near = let (w, on) = wraps refl in rw (le-le
     third false true = refl
     third false false = refl
 
-    go : 3 ≤ size → NearOn true size i x → has (before size i ∷ i ∷ after size i ∷ []) x ≡ true
-    go w (inl y) = rw (eq-eqb x i y) (or-right (eqb x (before size i)) (true || (eqb x (after size i) || false)) refl)
-    go w (inr (inl y)) = rw (eq-eqb x (after size i) y) (third (eqb x (before size i)) (eqb x i))
-    go w (inr (inr y)) = rw (eq-eqb x (before size i) (rw y (sym (before-after size x w below))))
+    go : 3 ≤ size → NearOn true size i x → has (lineBefore size i ∷ i ∷ lineAfter size i ∷ []) x ≡ true
+    go w (inl y) = rw (eq-eqb x i y) (or-right (eqb x (lineBefore size i)) (true || (eqb x (lineAfter size i) || false)) refl)
+    go w (inr (inl y)) = rw (eq-eqb x (lineAfter size i) y) (third (eqb x (lineBefore size i)) (eqb x i))
+    go w (inr (inr y)) = rw (eq-eqb x (lineBefore size i) (rw y (sym (before-after size x w below))))
 
 -- a line around i has i around it
 pub around-mutual : (edgeless : Bool) (size i x : ℕ) → i < size → has (around edgeless size i) x ≡ true → has (around edgeless size x) i ≡ true
@@ -185,7 +185,7 @@ around-nodup true size i = go (wraps-cases size i)
     go (inl e) = rw e
     go (inr ((w, on), e)) =
         let apart = lines-apart size i w on in
-        rw (e, ne-eqb (before size i) i (apart .before-other), ne-eqb (before size i) (after size i) (apart .before-after-other), ne-eqb i (after size i) (apart .after-other))
+        rw (e, ne-eqb (lineBefore size i) i (apart .before-other), ne-eqb (lineBefore size i) (lineAfter size i) (apart .before-after-other), ne-eqb i (lineAfter size i) (apart .after-other))
 
 around-few : (edgeless : Bool) (size i : ℕ) → length (around edgeless size i) ≤ 3
 unfolding around
@@ -388,7 +388,7 @@ one-or-own true size i = go (wraps-cases size i)
   where
     go : Wraps size i → (length (around true size i) ≤ 1) ⊎ (has (around true size i) i ≡ true)
     go (inl e) = inl (rw e (omega arith))
-    go (inr (w, e)) = inr (rw (e, eq-eqb i i refl) (or-right (eqb i (before size i)) (true || (eqb i (after size i) || false)) refl))
+    go (inr (w, e)) = inr (rw (e, eq-eqb i i refl) (or-right (eqb i (lineBefore size i)) (true || (eqb i (lineAfter size i) || false)) refl))
 
 pub neighbours-few : (edgeless : Bool) (rows columns c : ℕ) → length (neighbours edgeless rows columns c) ≤ 8
 unfolding neighbours

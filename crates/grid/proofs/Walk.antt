@@ -14,7 +14,7 @@ use Rattle.lists.specs.Lists.{range, without}
 use Rattle.lists.proofs.Tests.{Decided, decided}
 use Rattle.lists.proofs.Members.{range-more, range-none}
 use Rattle.grid.specs.declared.window.Window.{Window}
-use Rattle.grid.specs.Window.{before, after, around, lowAt, highAt, folded, block, neighbours, windowAt, On}
+use Rattle.grid.specs.Window.{lineBefore, lineAfter, around, lowAt, highAt, folded, block, neighbours, windowAt, On}
 
 -- ---- the lines of a window, folded back, are the lines around
 
@@ -22,10 +22,10 @@ fold-range : (size a k : ℕ) → a + k ≤ size → map (folded size) (range a 
 fold-range size a zero h = refl
 fold-range size a (suc k) h = rw (lt-ltb a size (omega arith), fold-range size (suc a) k (omega arith))
 
-fold-three : (size i : ℕ) → 3 ≤ size → i < size → map (folded size) (range (before size i) 3) ≡ before size i ∷ i ∷ after size i ∷ []
+fold-three : (size i : ℕ) → 3 ≤ size → i < size → map (folded size) (range (lineBefore size i) 3) ≡ lineBefore size i ∷ i ∷ lineAfter size i ∷ []
 fold-three size i wide on = go (decided (eqb i 0)) (decided (eqb (i + 1) size))
   where
-    go : Decided (eqb i 0) → Decided (eqb (i + 1) size) → map (folded size) (range (before size i) 3) ≡ before size i ∷ i ∷ after size i ∷ []
+    go : Decided (eqb i 0) → Decided (eqb (i + 1) size) → map (folded size) (range (lineBefore size i) 3) ≡ lineBefore size i ∷ i ∷ lineAfter size i ∷ []
     go (inl a) (inl b) = let z : i ≡ 0 = eqb-true i 0 a in let y : i + 1 ≡ size = eqb-true (i + 1) size b in absurd (omega arith)
     go (inl a) (inr b) =
         let z : i ≡ 0 = eqb-true i 0 a in
@@ -52,8 +52,8 @@ fold-around false size i on = fold-range size (i - 1) (min (i + 2) size - (i - 1
 fold-around true size i on = go (decided (leb 3 size))
   where
     go : Decided (leb 3 size) → map (folded size) (range (lowAt true size i) (highAt true size i - lowAt true size i)) ≡ around true size i
-    go (inl e) = let three : (before size i + 3) - before size i ≡ 3 = omega arith in rw (e, lt-ltb i size on, three) (fold-three size i (leb-true 3 size e) on)
-    go (inr e) = let none : before size i - before size i ≡ 0 = omega arith in rw (e, none)
+    go (inl e) = let three : (lineBefore size i + 3) - lineBefore size i ≡ 3 = omega arith in rw (e, lt-ltb i size on, three) (fold-three size i (leb-true 3 size e) on)
+    go (inr e) = let none : lineBefore size i - lineBefore size i ≡ 0 = omega arith in rw (e, none)
 
 -- ---- the walk
 

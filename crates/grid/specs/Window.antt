@@ -11,17 +11,17 @@ use Rattle.grid.specs.declared.window.UpToEight.{UpToEight}
 use Rattle.grid.specs.declared.window.Window.{Window}
 
 -- on a side whose first and last line touch: the line before a line and the line after it
-abbrev pub before : ℕ → ℕ → ℕ
-before size i = cond (eqb i 0) (size - 1) (i - 1)
+abbrev pub lineBefore : ℕ → ℕ → ℕ
+lineBefore size i = cond (eqb i 0) (size - 1) (i - 1)
 
-abbrev pub after : ℕ → ℕ → ℕ
-after size i = cond (eqb (i + 1) size) 0 (i + 1)
+abbrev pub lineAfter : ℕ → ℕ → ℕ
+lineAfter size i = cond (eqb (i + 1) size) 0 (i + 1)
 
 -- the lines around i, itself among them. With an edge: i - 1, i and i + 1, of those the ones below size. Without one: the line before, i and the line after,
 -- in this order; none on a side shorter than 3, where a line would be met twice
 unfoldable pub around : Bool → ℕ → ℕ → List ℕ
 around edgeless size i =
-    cond edgeless (cond (leb 3 size && ltb i size) (before size i ∷ i ∷ after size i ∷ []) []) (range (i - 1) (min (i + 2) size - (i - 1)))
+    cond edgeless (cond (leb 3 size && ltb i size) (lineBefore size i ∷ i ∷ lineAfter size i ∷ []) []) (range (i - 1) (min (i + 2) size - (i - 1)))
 
 -- the cells of some rows at some columns, row by row
 abbrev pub block : ℕ → List ℕ → List ℕ → List ℕ
@@ -40,10 +40,10 @@ neighbours edgeless rows columns c = without c (block columns (around edgeless r
 
 -- the first line of a window and one past its last; a window that wraps goes on past the size, and a line past the size is folded back
 abbrev pub lowAt : Bool → ℕ → ℕ → ℕ
-lowAt edgeless size i = cond edgeless (before size i) (i - 1)
+lowAt edgeless size i = cond edgeless (lineBefore size i) (i - 1)
 
 abbrev pub highAt : Bool → ℕ → ℕ → ℕ
-highAt edgeless size i = cond edgeless (cond (leb 3 size) (before size i + 3) (before size i)) (min (i + 2) size)
+highAt edgeless size i = cond edgeless (cond (leb 3 size) (lineBefore size i + 3) (lineBefore size i)) (min (i + 2) size)
 
 abbrev pub folded : ℕ → ℕ → ℕ
 folded size i = cond (ltb i size) i (i - size)

@@ -1,4 +1,6 @@
-// The neighbour window: which cells touch a cell. Whatever walks over neighbours goes through these functions.
+// The neighbour window: which cells touch a cell. Whatever walks over neighbours goes through these functions. On a board without an edge (`edgeless`) the first
+// and the last row touch, and the first and the last column: a window that wraps begins at the last line and runs past the size, and each line of it is folded
+// back to the line that it is. On a board with an edge nothing is folded.
 ghost use mathlib.Core.Path.{_≡_};
 ghost use Prim.Native.Nat.{_+_, _*_, _≤_, _<_};
 ghost use lib.Dec.{eqb};

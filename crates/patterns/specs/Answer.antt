@@ -11,13 +11,13 @@ use Rattle.patterns.specs.declared.PatternAnswer.the-variants.{Refused, 
 use Rattle.patterns.specs.Shapes.{patternFound}
 
 -- what the call answers once its tests have
-abbrev pub answerAfter : Tested → Bool → PatternAnswer
-answerAfter tests.Accepted found = cond found Found NotFound
-answerAfter (tests.Refused r) found = Refused r
+abbrev pub patternAfterTests : Tested → Bool → PatternAnswer
+patternAfterTests tests.Accepted found = cond found Found NotFound
+patternAfterTests (tests.Refused r) found = Refused r
 
 -- what unsolvable_structure answers
 unfoldable pub unsolvableStructure : ℕ → ℕ → List ℕ → PatternAnswer
-unsolvableStructure rows columns b = answerAfter (patternTested rows columns b) (patternFound rows columns b)
+unsolvableStructure rows columns b = patternAfterTests (patternTested rows columns b) (patternFound rows columns b)
 
 -- the number of an answer (SPECIFICATION 3.1): 0, or the refusal's
 abbrev pub patternNumber : PatternAnswer → ℕ

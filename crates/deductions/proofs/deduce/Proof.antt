@@ -15,7 +15,7 @@ use Rattle.direct.proofs.FrontierReady.{read-ready}
 use Rattle.frontier.proofs.CombinableBlocks.{read-combinable}
 use Rattle.deductions.specs.Answers.{seen, deduction}
 use Rattle.deductions.specs.Calls.{SoundCall}
-use Rattle.deductions.specs.ByRule.{ruleOn, Completes, Refuses}
+use Rattle.deductions.specs.ByRule.{ruleOn, CompleteBy, RefusesBy}
 use Rattle.deductions.specs.declared.Rule.{Rule}
 use Rattle.deductions.specs.declared.answer.DeductionAnswer.{DeductionAnswer}
 use Rattle.deductions.proofs.Deductions.{tests-refuse, rule-held, rule-seen}
@@ -29,7 +29,7 @@ module _ (edgeless : Bool) (rows columns : ℕ) (p s m : List ℕ) (r : Deductio
   clauses : (rule : Rule) → seen r p′ s′ m′ ≡ deduction (ruleOn rule) edgeless rows columns p s m
       → (seen r p′ s′ m′ ≡ deduction (ruleOn rule) edgeless rows columns p s m)
       × (SoundCall edgeless rows columns p s m (testedNumber (r .tested)) (r .safe) (r .mines) p′ s′ m′
-      × (Completes rule edgeless rows columns p s m (testedNumber (r .tested)) (r .safe) (r .mines) s′ m′ × Refuses rule edgeless rows columns p s m (testedNumber (r .tested))))
+      × (CompleteBy rule edgeless rows columns p s m (testedNumber (r .tested)) (r .safe) (r .mines) s′ m′ × RefusesBy rule edgeless rows columns p s m (testedNumber (r .tested))))
   clauses rule is = (is, (call-sound rule edgeless rows columns p s m r p′ s′ m′ is, (call-complete edgeless rows columns p s m r p′ s′ m′ rule is, call-refuses-by-rule edgeless rows columns p s m r p′ s′ m′ rule is)))
 
 test-deduction-requires : tie.Need-test-deduction-requires
