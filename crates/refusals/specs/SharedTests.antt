@@ -9,9 +9,11 @@ use Rattle.refusals.specs.declared.Refusal.the-variants.{Size, Length, C
 use Rattle.refusals.specs.Refusals.{Test, test}
 use Rattle.refusals.specs.Tests.{sizeOk, lengthOk}
 
+-- 0 to 8, or from low to high
 abbrev pub cellIn : ℕ → ℕ → ℕ → Bool
 cellIn low high v = leb v 8 || (leb low v && leb v high)
 
+-- tests 1, 2 and 3 of a slice b, the third by its answer
 abbrev pub cellTests : ℕ → ℕ → ℕ → List ℕ → Bool → List Test
 cellTests least rows columns b cellsOk =
     test (sizeOk least rows columns) Size ∷ test (lengthOk rows columns (length b)) Length ∷ test cellsOk Cell ∷ []
