@@ -5,6 +5,7 @@
 //   oracle enumerate-rust                                       the same, with the Rust's own lists (docs/DIFFERENCES.md)
 //   oracle pattern                                              lines `R C v v v ...`, a board, 255 a mine
 //   oracle is_solvable | verdict                                lines `R C r c v v v ...`, a board and its start
+//   oracle strongest                                            the same, with the strongest rule that found a cell, which the grade of a no does not tell
 //   oracle judge [--pictures]                                   records (SPECIFICATION 5.1) from standard input
 //
 // A line or record at which the Rust panics is answered `panic`. Each line goes out at once, so that one who stops waiting has all lines before.
@@ -64,15 +65,18 @@ fn judged(head: &[i64], cells: &[i64]) -> Result<Verdict, usize> {
     Ok(verdict(&board, (start / columns as usize, start % columns as usize)))
 }
 
-/// What is answered to these numbers: `refused N`, or verdict, opened cells, grade and rounds, and the picture behind the words given.
-fn judged_text(numbers: &[i64], before_picture: Option<&str>) -> String {
+/// What is answered to these numbers: `refused N`, or yes or no and what else is told of the verdict.
+fn judged_text(numbers: &[i64], told: impl Fn(&Verdict) -> String) -> String {
     match judged(&numbers[..4], &numbers[4..]) {
         Err(refusal) => format!("refused {}", refusal),
-        Ok(v) => {
-            let picture = before_picture.map_or(String::new(), |words| words.to_string() + &values(&v.picture));
-            format!("{} {} {} {}{}", if v.yes { "yes" } else { "no" }, v.opened, v.grade, v.rounds, picture)
-        }
+        Ok(v) => format!("{} {}", if v.yes { "yes" } else { "no" }, told(&v)),
     }
+}
+
+/// Opened cells, grade and rounds, and the picture behind the words given.
+fn counts_text(v: &Verdict, before_picture: Option<&str>) -> String {
+    let picture = before_picture.map_or(String::new(), |words| words.to_string() + &values(&v.picture));
+    format!("{} {} {}{}", v.opened, v.grade, v.rounds, picture)
 }
 
 fn judge(input: &[u8], pictures: bool, out: &mut dyn Write) {
@@ -90,7 +94,7 @@ fn judge(input: &[u8], pictures: bool, out: &mut dyn Write) {
         }
         let size = 6 + rest[2] as usize * rest[3] as usize;
         let numbers: Vec<i64> = rest[2..size].iter().map(|&b| b as i64).collect();
-        let text = std::panic::catch_unwind(|| judged_text(&numbers, before_picture)).unwrap_or("panic".into());
+        let text = std::panic::catch_unwind(|| judged_text(&numbers, |v| counts_text(v, before_picture))).unwrap_or("panic".into());
         put_line(&format!("{} {}", number, text), out);
         at += size;
     }
@@ -132,12 +136,14 @@ fn put_line(text: &str, out: &mut dyn Write) {
 
 /// One line in, one line out.
 fn answer(mode: &str, numbers: &[i64]) -> String {
-    let head = if mode == "is_solvable" || mode == "verdict" { 4 } else { 2 };
+    let head = if matches!(mode, "is_solvable" | "verdict" | "strongest") { 4 } else { 2 };
     if numbers.len() < head {
         return "unreadable".into();
     }
-    if mode == "verdict" {
-        return judged_text(numbers, Some(" picture "));
+    match mode {
+        "verdict" => return judged_text(numbers, |v| counts_text(v, Some(" picture "))),
+        "strongest" => return judged_text(numbers, |v| v.strongest.to_string()),
+        _ => {}
     }
     let on_board = mode == "pattern" || mode == "is_solvable";
     let least = if mode == "pattern" { 3 } else { 1 };
@@ -218,7 +224,7 @@ fn run() {
             std::io::stdin().lock().read_to_end(&mut input).unwrap();
             judge(&input, words.iter().any(|w| w == "--pictures"), &mut out);
         }
-        "frontier" | "direct" | "minus" | "enumerate" | "enumerate-rust" | "table" | "pattern" | "is_solvable" | "verdict" => {
+        "frontier" | "direct" | "minus" | "enumerate" | "enumerate-rust" | "table" | "pattern" | "is_solvable" | "verdict" | "strongest" => {
             for line in std::io::stdin().lock().lines() {
                 let line = line.unwrap().replace('/', " ");
                 let numbers: Result<Vec<i64>, _> = line.split_whitespace().map(|w| w.parse::<i64>()).collect();
@@ -230,7 +236,7 @@ fn run() {
             }
         }
         _ => {
-            eprintln!("oracle: the first word is one of frontier direct minus enumerate enumerate-rust table pattern is_solvable verdict judge");
+            eprintln!("oracle: the first word is one of frontier direct minus enumerate enumerate-rust table pattern is_solvable verdict strongest judge");
             std::process::exit(2);
         }
     }

@@ -34,6 +34,8 @@ fn enumerate(a: &Vec<Vec<Vec<i32>>>, x: &Vec<Vec<Cell>>, b: &Vec<Vec<i32>>) -> O
 struct Verdict {
     yes: bool,
     opened: usize,
+    /// the strongest rule that found a cell, of a no too
+    strongest: usize,
     grade: usize,
     rounds: usize,
     picture: Grid,
@@ -42,7 +44,7 @@ struct Verdict {
 fn verdict(board: &Grid, start: Cell) -> Verdict {
     let (rows, columns) = (board.len(), board[0].len());
     let mut g = vec![vec![10; columns]; rows];
-    let mut v = Verdict { yes: false, opened: 0, grade: 0, rounds: 0, picture: g.clone() };
+    let mut v = Verdict { yes: false, opened: 0, strongest: 0, grade: 4, rounds: 0, picture: g.clone() };
     if board[start.0][start.1] == -1 {
         return v;
     }
@@ -52,6 +54,7 @@ fn verdict(board: &Grid, start: Cell) -> Verdict {
         v.opened = g.iter().flatten().filter(|&&c| c < 10).count();
         if v.opened == safe_cells {
             v.yes = true;
+            v.grade = v.strongest;
             break;
         }
         let mut rule = 1;
@@ -71,7 +74,7 @@ fn verdict(board: &Grid, start: Cell) -> Verdict {
             break;
         }
         v.rounds += 1;
-        v.grade = max(v.grade, rule);
+        v.strongest = max(v.strongest, rule);
         for &(i, j) in &found.0 {
             g[i][j] = 12;
         }
