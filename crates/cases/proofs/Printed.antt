@@ -24,13 +24,13 @@ use Rattle.run.specs.Run.{verdicts, textFrom, printed}
 abbrev pub exampleInput : List ℕ
 exampleInput = 77 ∷ 66 ∷ 1 ∷ 3 ∷ 0 ∷ 2 ∷ 255 ∷ 1 ∷ 0 ∷ 77 ∷ 66 ∷ 1 ∷ 3 ∷ 0 ∷ 0 ∷ 1 ∷ 255 ∷ 1 ∷ 77 ∷ 66 ∷ 0 ∷ 1 ∷ 0 ∷ 0 ∷ []
 
--- `board verdict opened grade rounds`, `1 yes 2 0 0`, `2 no 1 1 1`, `3 refused 1`, a line each
+-- `board verdict opened grade rounds`, `1 yes 2 0 0`, `2 no 1 4 1`, `3 refused 1`, a line each
 abbrev pub exampleOutput : List ℕ
 exampleOutput =
     98 ∷ 111 ∷ 97 ∷ 114 ∷ 100 ∷ 32 ∷ 118 ∷ 101 ∷ 114 ∷ 100 ∷ 105 ∷ 99 ∷ 116 ∷ 32 ∷ 111 ∷ 112 ∷ 101 ∷ 110 ∷ 101 ∷ 100 ∷ 32 ∷ 103 ∷ 114 ∷ 97 ∷ 100 ∷ 101 ∷ 32 ∷ 114 ∷ 111
     ∷ 117 ∷ 110 ∷ 100 ∷ 115 ∷ 10
     ∷ 49 ∷ 32 ∷ 121 ∷ 101 ∷ 115 ∷ 32 ∷ 50 ∷ 32 ∷ 48 ∷ 32 ∷ 48 ∷ 10
-    ∷ 50 ∷ 32 ∷ 110 ∷ 111 ∷ 32 ∷ 49 ∷ 32 ∷ 49 ∷ 32 ∷ 49 ∷ 10
+    ∷ 50 ∷ 32 ∷ 110 ∷ 111 ∷ 32 ∷ 49 ∷ 32 ∷ 52 ∷ 32 ∷ 49 ∷ 10
     ∷ 51 ∷ 32 ∷ 114 ∷ 101 ∷ 102 ∷ 117 ∷ 115 ∷ 101 ∷ 100 ∷ 32 ∷ 49 ∷ 10 ∷ []
 
 pub example-printed : printed exampleInput ≡ exampleOutput

@@ -167,12 +167,21 @@ table =
     -- pattern found; below 3 rows it is refusal 1
     ∷ pattern 3 3 (3 ∷ replicate 8 255) 0 (1 ∷ [])
     ∷ pattern 2 3 (3 ∷ replicate 5 255) 1 []
-    -- 10. `1 255 1 / 1 1 1`, start 1,0: no, 1 opened
-    ∷ judged 2 3 1 0 (1 ∷ 255 ∷ 1 ∷ 1 ∷ 1 ∷ 1 ∷ []) false 1 0 0 (10 ∷ 10 ∷ 10 ∷ 1 ∷ 10 ∷ 10 ∷ [])
+    -- 10. `1 255 1 / 1 1 1`, start 1,0: no, 1 opened, grade 4
+    ∷ judged 2 3 1 0 (1 ∷ 255 ∷ 1 ∷ 1 ∷ 1 ∷ 1 ∷ []) false 1 4 0 (10 ∷ 10 ∷ 10 ∷ 1 ∷ 10 ∷ 10 ∷ [])
     ∷ solver 2 3 3 (1 ∷ 255 ∷ 1 ∷ 1 ∷ 1 ∷ 1 ∷ []) (10 ∷ 10 ∷ 10 ∷ 1 ∷ 10 ∷ 10 ∷ []) 1 false
     -- the boards of the printed example: `255 1 0` from its 0, and `1 255 1`, where the direct rule finds the mine and then nothing
     ∷ judged 1 3 0 2 (255 ∷ 1 ∷ 0 ∷ []) true 2 0 0 (10 ∷ 1 ∷ 0 ∷ [])
-    ∷ judged 1 3 0 0 (1 ∷ 255 ∷ 1 ∷ []) false 1 1 1 (1 ∷ 10 ∷ 10 ∷ [])
+    ∷ judged 1 3 0 0 (1 ∷ 255 ∷ 1 ∷ []) false 1 4 1 (1 ∷ 10 ∷ 10 ∷ [])
+    -- from its mine: no, nothing opened, grade 4
+    ∷ judged 1 3 0 1 (1 ∷ 255 ∷ 1 ∷ []) false 0 4 0 (10 ∷ 10 ∷ 10 ∷ [])
+    -- Paper 2: the strongest rule is the direct one, subtraction, enumeration; judged yes, each board has the grade of its rule
+    ∷ judged 3 3 0 0 (0 ∷ 0 ∷ 0 ∷ 1 ∷ 2 ∷ 2 ∷ 1 ∷ 255 ∷ 255 ∷ []) true 7 1 1 (0 ∷ 0 ∷ 0 ∷ 1 ∷ 2 ∷ 2 ∷ 1 ∷ 10 ∷ 10 ∷ [])
+    ∷ judged 3 3 0 0 (0 ∷ 0 ∷ 0 ∷ 1 ∷ 1 ∷ 1 ∷ 1 ∷ 255 ∷ 1 ∷ []) true 8 2 1 (0 ∷ 0 ∷ 0 ∷ 1 ∷ 1 ∷ 1 ∷ 1 ∷ 10 ∷ 1 ∷ [])
+    ∷ judged 3 3 0 0 (0 ∷ 1 ∷ 1 ∷ 1 ∷ 2 ∷ 255 ∷ 1 ∷ 255 ∷ 2 ∷ []) true 7 3 2 (0 ∷ 1 ∷ 1 ∷ 1 ∷ 2 ∷ 10 ∷ 1 ∷ 10 ∷ 2 ∷ [])
+    -- judged no, after subtraction and after enumeration: 4
+    ∷ judged 3 3 0 0 (0 ∷ 1 ∷ 1 ∷ 2 ∷ 4 ∷ 255 ∷ 255 ∷ 255 ∷ 255 ∷ []) false 4 4 2 (0 ∷ 1 ∷ 10 ∷ 2 ∷ 4 ∷ 10 ∷ 10 ∷ 10 ∷ 10 ∷ [])
+    ∷ judged 3 3 0 0 (0 ∷ 1 ∷ 1 ∷ 1 ∷ 3 ∷ 255 ∷ 1 ∷ 255 ∷ 255 ∷ []) false 4 4 1 (0 ∷ 1 ∷ 10 ∷ 1 ∷ 3 ∷ 10 ∷ 10 ∷ 10 ∷ 10 ∷ [])
     -- 11. 32 rows accepted, 33 refusal 1
     ∷ board-tested 32 1 0 0 (replicate 32 0) 0
     ∷ board-tested 33 1 0 0 (replicate 33 0) 1

@@ -1,16 +1,16 @@
 -- The verdict's passes over a rule that is sound and complete are a judged run, so demand 3 holds of `judge`, whatever else the rule is. What each pass
--- keeps, the ending has (`passes-keep`): so the board's own layout fits wherever the passes come to, rounds never exceed the cells, and the grade is at
--- most the greatest that the rule gives. Rests on Steps and Confluence. Assumes nothing.
+-- keeps, the ending has (`passes-keep`): so the board's own layout fits wherever the passes come to, rounds never exceed the cells, and the grade is one that
+-- the rule gives, or 0 without a round. Rests on Steps and Confluence. Assumes nothing.
 use mathlib.Core.Path.{_≡_, refl, sym, _∙_}
 use mathlib.Core.Logic.{_⊎_, inl, inr, _≢_, _↔_}
 use mathlib.Core.Bool.{true, false, _||_}
 use mathlib.Core.List.{List}
 use Prim.Native.Nat.{ℕ, zero, suc, _+_, _≤_, _<_, max}
 use native.Mathlib.Omega.{arith}
-use native.Mathlib.Nat.{max-le}
+use native.Mathlib.Nat.{le-max-right, max-eq-left, max-eq-right}
 use lib.ListN.{length}
 use lib.Dec.{leb, eqb}
-use borrow.Author.Tests.{eqb-false, ne-eqb, leb-true, le-leb}
+use borrow.Author.Tests.{eqb-false, ne-eqb, leb-true, leb-false, le-leb}
 use Rattle.lists.proofs.Tests.{Decided, decided, clash, every-at, every-of}
 use Rattle.lists.proofs.Counts.{count-le}
 use Rattle.grid.specs.Cells.{cellOf, shows}
@@ -163,10 +163,27 @@ rounds-cells near b rule s ok l n sound = omega (arith, kept .1)
         (λ p _ rounds e h. (pass-own near b rule p ok sound (h .0), omega (arith, pass-less near b ok rule sound p (h .0) e, h .1)))
         (length b) (beginning near b s) 0 0 (begin-own near b s ok l n, omega (arith, begin-closed near b s ok l n))
 
--- the grade is at most the greatest with which the rule finds a cell
-pub grade-bound : (near : ℕ → List ℕ) (b : List ℕ) (rule : List ℕ → GradedCells) (s g : ℕ)
-    → ((p : List ℕ) → nothing (rule p) ≡ false → rule p .grade ≤ g) → judge near b rule s .grade ≤ g
+-- the greater of two numbers is one of them
+max-either : (P : ℕ → Type 0) (m n : ℕ) → P m → P n → P (max m n)
+max-either P m n left right = go (decided (leb m n))
+  where
+    go : Decided (leb m n) → P (max m n)
+    go (inl e) = rw (max-eq-right (leb-true m n e)) right
+    go (inr e) = rw (max-eq-left {n = m} {m = n} (omega (arith, leb-false m n e))) left
+
+-- the grade is 0 or one with which the rule finds a cell: what holds of these holds of it
+pub grade-of-a-rule : (near : ℕ → List ℕ) (b : List ℕ) (rule : List ℕ → GradedCells) (s : ℕ) (P : ℕ → Type 0)
+    → P 0 → ((p : List ℕ) → nothing (rule p) ≡ false → P (rule p .grade)) → P (judge near b rule s .grade)
 unfolding judge
-grade-bound near b rule s g h =
-    passes-keep near b rule (λ _ grade _. grade ≤ g) (λ p _ _ e w. max-le w (h p e))
-    (length b) (beginning near b s) 0 0 (omega arith)
+grade-of-a-rule near b rule s P none found =
+    passes-keep near b rule (λ _ grade _. P grade) (λ p grade _ e h. max-either P grade (rule p .grade) h (found p e))
+    (length b) (beginning near b s) 0 0 none
+
+-- and it is 0 exactly where no pass found a cell, if the rule finds none with the grade 0
+pub grade-zero : (near : ℕ → List ℕ) (b : List ℕ) (rule : List ℕ → GradedCells) (s : ℕ)
+    → ((p : List ℕ) → nothing (rule p) ≡ false → 1 ≤ rule p .grade) → (judge near b rule s .grade ≡ 0) ↔ (judge near b rule s .rounds ≡ 0)
+unfolding judge
+grade-zero near b rule s h =
+    passes-keep near b rule (λ _ grade rounds. (grade ≡ 0) ↔ (rounds ≡ 0))
+    (λ p grade rounds e _. (λ none. absurd (omega (arith, le-max-right grade (rule p .grade), h p e, none)), λ none. absurd (omega (arith, none))))
+    (length b) (beginning near b s) 0 0 (λ e. e, λ e. e)

@@ -1,5 +1,5 @@
 -- Demand 3 of a printed line: the line of an accepted plain board with a safe start tells a verdict and an opened count of which demand 3 holds, with the picture that the verdict filled.
--- Rests on `answer-demand-3` of the crate verdict. Assumes nothing.
+-- And what the grade in a line tells, under whatever mark. Rests on `answer-demand-3` and `grade-tells` of the crate verdict. Assumes nothing.
 use mathlib.Core.Path.{_≡_, refl}
 use mathlib.Core.Logic.{_≢_}
 use mathlib.Core.List.{List, [], _∷_}
@@ -9,9 +9,12 @@ use Rattle.grid.specs.Cells.{cellOf}
 use Rattle.grid.specs.Window.{flat, neighbours}
 use Rattle.refusals.specs.declared.Tested.the-variants.{Accepted}
 use Rattle.refusals.specs.Tests.{boardTested, startCell}
-use Rattle.records.specs.declared.BoardMark.the-variants.{Plain}
+use Rattle.refusals.specs.declared.Refusal.the-variants.{Mark}
+use Rattle.records.specs.declared.BoardMark.{BoardMark}
+use Rattle.records.specs.declared.BoardMark.the-variants.{Plain, Unknown}
 use Rattle.verdict.specs.Verdict.{isSolvable, MeetsDemand3}
 use Rattle.verdict.proofs.DemandThree.{answer-demand-3}
+use Rattle.verdict.proofs.Bounds.{GradeTells, refusal-tells, grade-tells}
 use Rattle.record_lines.specs.Answers.{pictureSize, boardVerdict}
 
 module _ (rows columns row column : ℕ) (b : List ℕ) where
@@ -23,3 +26,9 @@ module _ (rows columns row column : ℕ) (b : List ℕ) where
     answer-demand-3 flat rows columns row column b (replicate (pictureSize rows columns) 0)
         (rw (length-replicate {A = ℕ} (pictureSize rows columns) 0) tests) safe _ _ refl,
   )
+
+  -- the grade is 4 exactly where the line says no
+  pub line-grade : (mark : BoardMark) → GradeTells (boardVerdict mark rows columns row column b)
+  unfolding boardVerdict
+  line-grade Plain = grade-tells flat rows columns row column b (replicate (pictureSize rows columns) 0)
+  line-grade Unknown = refusal-tells Mark

@@ -1,53 +1,98 @@
--- Rounds and grade of a verdict, for every input: rounds never exceed the cells of the board, and the grade is at most 3. A refusal has neither, and a start on a
--- mine has 0 of both; else they are those of the passes. Rests on `rounds-cells` and `grade-bound` of the crate fitting. Assumes nothing.
-use mathlib.Core.Path.{_≡_, refl, ap}
-use mathlib.Core.Logic.{inl, inr}
-use mathlib.Core.Bool.{Bool}
+-- Rounds and grade of a verdict, for every input: rounds never exceed the cells of the board; the grade is 4 exactly where the verdict is no, and a yes has the
+-- grade of a rule, or 0 where no pass found a cell. A refusal has neither. Rests on `rounds-cells`, `grade-of-a-rule` and `grade-zero` of the crate fitting. Assumes nothing.
+use mathlib.Core.Path.{_≡_, refl, sym, ap}
+use mathlib.Core.Logic.{inl, inr, _↔_}
+use mathlib.Core.Bool.{Bool, true, false}
 use mathlib.Core.List.{List, [], _∷_}
 use Prim.Native.Nat.{ℕ, _≤_, _<_}
 use native.Mathlib.Omega.{arith}
 use lib.Dec.{eqb}
 use lib.ListN.{length}
 use borrow.Author.Tests.{eqb-false}
-use Rattle.lists.proofs.Tests.{Decided, decided}
+use Rattle.lists.proofs.Tests.{Decided, decided, clash}
 use Rattle.grid.specs.Cells.{cellOf}
 use Rattle.grid.specs.Window.{neighbours}
+use Rattle.refusals.specs.declared.Refusal.{Refusal}
 use Rattle.refusals.specs.declared.Tested.{Tested}
 use Rattle.refusals.specs.declared.Tested.the-variants.{Accepted, Refused as TestRefused}
+use Rattle.refusals.specs.Refusals.{refusalNumber}
 use Rattle.refusals.specs.Tests.{boardTested, startCell}
 use Rattle.refusals.proofs.Accepted.{accepted-board}
+use Rattle.refusals.proofs.FirstFailure.{refusal-not-zero}
 use Rattle.fitting.specs.Boards.{Accepted as AcceptedBoard}
-use Rattle.fitting.specs.Passes.{nothing, orElse}
-use Rattle.fitting.proofs.Passes.{rounds-cells, grade-bound}
+use Rattle.fitting.specs.Demand.{opened}
+use Rattle.fitting.specs.Passes.{nothing, orElse, Ending, judge}
+use Rattle.fitting.proofs.Passes.{rounds-cells, grade-of-a-rule, grade-zero}
 use Rattle.direct.specs.Found.{ruleOf}
 use Rattle.direct.specs.Direct.{direct}
 use Rattle.subtraction.specs.Minus.{subtraction}
 use Rattle.enumeration.specs.ThreeRules.{threeRules}
 use Rattle.enumeration.proofs.BoardRules.{board-rules-sound}
 use Rattle.verdict.specs.declared.Verdict.{Verdict}
-use Rattle.verdict.specs.Verdict.{verdictGrade, verdictRounds, VerdictSeen, verdictSeen, verdictAfterTests, judgedFrom, isSolvable}
+use Rattle.verdict.specs.declared.Verdict.the-variants.{Refused, Judged}
+use Rattle.verdict.specs.Verdict.{verdictNumber, verdictYes, verdictGrade, verdictRounds, boardGrade, VerdictSeen, verdictSeen, verdictAfterTests, judgedFrom, isSolvable}
 use Rattle.verdict.proofs.Admitted.{tested-accepted}
 
 -- the three rules have the grades 1, 2 and 3
-pub three-grades : (near : ℕ → List ℕ) (p : List ℕ) → threeRules near p .grade ≤ 3
+pub three-grades : (near : ℕ → List ℕ) (p : List ℕ) → (1 ≤ threeRules near p .grade) × (threeRules near p .grade ≤ 3)
 unfolding orElse
 three-grades near p = go (decided (nothing (ruleOf near direct 1 p))) (decided (nothing (ruleOf near subtraction 2 p)))
   where
-    go : Decided (nothing (ruleOf near direct 1 p)) → Decided (nothing (ruleOf near subtraction 2 p)) → threeRules near p .grade ≤ 3
-    go (inr e) f = rw e (omega arith)
-    go (inl e) (inr f) = rw (e, f) (omega arith)
-    go (inl e) (inl f) = rw (e, f) (omega arith)
+    go : Decided (nothing (ruleOf near direct 1 p)) → Decided (nothing (ruleOf near subtraction 2 p))
+        → (1 ≤ threeRules near p .grade) × (threeRules near p .grade ≤ 3)
+    go (inr e) f = rw e (omega arith, omega arith)
+    go (inl e) (inr f) = rw (e, f) (omega arith, omega arith)
+    go (inl e) (inl f) = rw (e, f) (omega arith, omega arith)
+
+-- ---- what the grade of an answer tells
+
+pub record GradeTells (v : Verdict) : Type 0 where
+  -- it is 4 exactly where the verdict is no
+  pub four : verdictNumber v ≡ 0 → (verdictGrade v ≡ 4) ↔ (verdictYes v ≡ false)
+  -- a yes has the grade of a rule
+  pub of-a-rule : verdictYes v ≡ true → verdictGrade v ≤ 3
+  -- or 0, exactly where no pass found a cell
+  pub none : verdictYes v ≡ true → (verdictGrade v ≡ 0) ↔ (verdictRounds v ≡ 0)
+
+-- that of a board does, where the strongest rule's is at most 3, and 0 exactly without a round
+board-grade-tells : (answer : Bool) (n strongest rounds : ℕ) → strongest ≤ 3 → (strongest ≡ 0) ↔ (rounds ≡ 0)
+    → GradeTells (Judged answer n (boardGrade answer strongest) rounds)
+board-grade-tells true n strongest rounds few zero = record {
+  four = λ _. (λ e. absurd (omega (arith, few, e)), λ e. clash true refl e);
+  of-a-rule = λ _. few;
+  none = λ _. zero;
+}
+board-grade-tells false n strongest rounds few zero = record {
+  four = λ _. (λ _. refl, λ _. refl);
+  of-a-rule = λ e. clash true refl (sym e);
+  none = λ e. clash true refl (sym e);
+}
+
+-- a refusal has none
+pub refusal-tells : (r : Refusal) → GradeTells (Refused r)
+refusal-tells r = record {
+  four = λ e. absurd (eqb-false (refusalNumber r) 0 (refusal-not-zero r) e);
+  of-a-rule = λ e. clash true refl (sym e);
+  none = λ e. clash true refl (sym e);
+}
 
 -- ---- from the cell that the start means
 
 module _ (near : ℕ → List ℕ) (b : List ℕ) (s : ℕ) where
-  judged-grade : verdictGrade (judgedFrom near b s .answer) ≤ 3
+  abbrev ends : Ending
+  ends = judge near b (threeRules near) s
+
+  judged-grade : GradeTells (judgedFrom near b s .answer)
   unfolding judgedFrom
   judged-grade = go (decided (eqb (cellOf b s) 255))
     where
-      go : Decided (eqb (cellOf b s) 255) → verdictGrade (judgedFrom near b s .answer) ≤ 3
-      go (inl e) = rw e (omega arith)
-      go (inr e) = rw e (grade-bound near b (threeRules near) s 3 (λ p _. three-grades near p))
+      go : Decided (eqb (cellOf b s) 255) → GradeTells (judgedFrom near b s .answer)
+      go (inl e) = rw e (board-grade-tells false 0 0 0 (omega arith) (λ z. z, λ z. z))
+      go (inr e) =
+          rw e
+          (board-grade-tells (ends .yes) (opened (ends .position)) (ends .grade) (ends .rounds)
+          (grade-of-a-rule near b (threeRules near) s (λ g. g ≤ 3) (omega arith) (λ p _. three-grades near p .1))
+          (grade-zero near b (threeRules near) s (λ p _. three-grades near p .0)))
 
 judged-rounds : (edgeless : Bool) (rows columns : ℕ) (b : List ℕ) (s : ℕ) → AcceptedBoard (neighbours edgeless rows columns) b → s < length b
     → verdictRounds (judgedFrom (neighbours edgeless rows columns) b s .answer) ≤ length b
@@ -69,14 +114,14 @@ module _ (edgeless : Bool) (rows columns row column : ℕ) (b shown : List ℕ) 
   abbrev judged : VerdictSeen
   judged = judgedFrom (neighbours edgeless rows columns) b (startCell columns row column b)
 
-  -- the grade is at most 3
-  pub grade-at-most-three : verdictGrade (isSolvable edgeless rows columns row column b shown .answer) ≤ 3
+  -- what the grade tells
+  pub grade-tells : GradeTells (isSolvable edgeless rows columns row column b shown .answer)
   unfolding isSolvable
-  grade-at-most-three = go tests
+  grade-tells = go tests
     where
-      go : (t : Tested) → verdictGrade (verdictAfterTests t judged shown .answer) ≤ 3
+      go : (t : Tested) → GradeTells (verdictAfterTests t judged shown .answer)
       go Accepted = judged-grade (neighbours edgeless rows columns) b (startCell columns row column b)
-      go (TestRefused x) = omega arith
+      go (TestRefused x) = refusal-tells x
 
   -- rounds never exceed the cells
   pub rounds-at-most-cells : verdictRounds (isSolvable edgeless rows columns row column b shown .answer) ≤ length b
@@ -90,7 +135,7 @@ module _ (edgeless : Bool) (rows columns row column : ℕ) (b shown : List ℕ) 
       go (TestRefused x) e = omega arith
 
   -- so of an answer that is the definition's
-  pub answer-bounds : (r : Verdict) (after : List ℕ) → verdictSeen r after ≡ isSolvable edgeless rows columns row column b shown → (verdictRounds r ≤ length b) × (verdictGrade r ≤ 3)
+  pub answer-bounds : (r : Verdict) (after : List ℕ) → verdictSeen r after ≡ isSolvable edgeless rows columns row column b shown → (verdictRounds r ≤ length b) × GradeTells r
   answer-bounds r after e =
       let same : r ≡ isSolvable edgeless rows columns row column b shown .answer = ap (λ (w : VerdictSeen). w .answer) e in
-      (rw same rounds-at-most-cells, rw same grade-at-most-three)
+      (rw same rounds-at-most-cells, rw same grade-tells)

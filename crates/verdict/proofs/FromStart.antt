@@ -1,6 +1,6 @@
 -- The verdict from the cell that the start means, step by step as the code takes them: an array has room for the board's cells; every cell of a position is
--- closed; a start on a mine is judged no; else the start is opened, which leads to the position where the passes begin, and the end of the passes is what the
--- caller sees. Assumes nothing.
+-- closed; a start on a mine is judged no; else the start is opened, which leads to the position where the passes begin, and the end of the passes, graded, is
+-- what the caller sees. Assumes nothing.
 use mathlib.Core.Path.{_≡_, refl, sym, ap, _∙_}
 use mathlib.Core.Logic.{_≢_}
 use mathlib.Core.Bool.{Bool, true, false, _&&_}
@@ -25,7 +25,7 @@ use Rattle.enumeration.specs.ThreeRules.{threeRules}
 use Rattle.verdict.specs.declared.passes.Ending.{Ending}
 use Rattle.verdict.specs.declared.Verdict.the-variants.{Judged}
 use Rattle.verdict.specs.Findings.{endOf}
-use Rattle.verdict.specs.Verdict.{verdictSeen, judgedFrom}
+use Rattle.verdict.specs.Verdict.{boardGrade, verdictSeen, judgedFrom}
 
 -- of closed cells none is open
 none-open : (n : ℕ) → opened (replicate n 10) ≡ 0
@@ -71,10 +71,10 @@ module _ {rows columns : ℕ} {b : List ℕ} (board : Board b rows columns) (s :
 
 module _ (edgeless : Bool) {rows columns : ℕ} {b : List ℕ} (board : Board b rows columns) (s : ℕ) (l : s < length b) where
   -- the start is a mine: nothing is open
-  pub start-mine : cellOf b s ≡ 255 → {closed : List ℕ} → closed ≡ replicate (length b) 10 → {n : ℕ} {shown : List ℕ} → n ≡ opened closed → shown ≡ picture closed
-      → verdictSeen (Judged false n 0 0) shown ≡ judgedFrom (neighbours edgeless rows columns) b s
+  pub start-mine : cellOf b s ≡ 255 → {closed : List ℕ} → closed ≡ replicate (length b) 10 → {n grade : ℕ} {shown : List ℕ} → n ≡ opened closed → shown ≡ picture closed
+      → grade ≡ boardGrade false 0 → verdictSeen (Judged false n grade 0) shown ≡ judgedFrom (neighbours edgeless rows columns) b s
   unfolding judgedFrom
-  start-mine e is count shows = rw (count, shows, is, none-open (length b), none-shown (length b), eq-eqb (cellOf b s) 255 e)
+  start-mine e is count shows graded = rw (count, shows, graded, is, none-open (length b), none-shown (length b), eq-eqb (cellOf b s) 255 e)
 
   -- the start is safe
   module _ (safe : cellOf b s ≢ 255) where
@@ -99,7 +99,7 @@ module _ (edgeless : Bool) {rows columns : ℕ} {b : List ℕ} (board : Board b 
     pub passes-told : {e : Ending} {last : List ℕ}
         → e ≡ endOf (judge (neighbours edgeless rows columns) b (threeRules (neighbours edgeless rows columns)) s)
         → last ≡ judge (neighbours edgeless rows columns) b (threeRules (neighbours edgeless rows columns)) s .position
-        → {n : ℕ} {shown : List ℕ} → n ≡ opened last → shown ≡ picture last
-        → verdictSeen (Judged (e .yes) n (e .grade) (e .rounds)) shown ≡ judgedFrom (neighbours edgeless rows columns) b s
+        → {n grade : ℕ} {shown : List ℕ} → n ≡ opened last → shown ≡ picture last → grade ≡ boardGrade (e .yes) (e .grade)
+        → verdictSeen (Judged (e .yes) n grade (e .rounds)) shown ≡ judgedFrom (neighbours edgeless rows columns) b s
     unfolding judgedFrom
-    passes-told ends at count shows = rw (ne-eqb (cellOf b s) 255 safe, count, shows, at, ends)
+    passes-told ends at count shows graded = rw (ne-eqb (cellOf b s) 255 safe, graded, count, shows, at, ends)

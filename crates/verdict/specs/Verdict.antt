@@ -1,5 +1,5 @@
 -- The verdict as a caller sees it (SPECIFICATION 4.2 and 9): refusals 1, 2, 3, 4, 5 and 7; a start on a mine is judged
--- no, with nothing opened; else the passes over the three rules, and the picture of the position that they end with. Assumes nothing.
+-- no, with nothing opened; else the passes over the three rules, and the picture of the position that they end with. A no has the grade 4. Assumes nothing.
 use mathlib.Core.Path.{_≡_}
 use mathlib.Core.Bool.{Bool, false, cond}
 use mathlib.Core.List.{List, [], _∷_}
@@ -42,6 +42,11 @@ verdictGrade v = getD (verdictValues v) 2 0
 abbrev pub verdictRounds : Verdict → ℕ
 verdictRounds v = getD (verdictValues v) 3 0
 
+-- the grade of a board (SPECIFICATION 9.3), what finishing it takes: of one judged yes the grade of the strongest rule that found a cell, 0 if none did; of one
+-- judged no 4, a guess
+abbrev pub boardGrade : Bool → ℕ → ℕ
+boardGrade answer strongest = cond answer strongest 4
+
 -- what the caller sees after the call: the answer, and the lent picture
 pub record VerdictSeen : Type 0 where
   pub answer : Verdict
@@ -52,11 +57,11 @@ verdictSeen a shown = record { answer = a; shown = shown }
 
 -- what the end of the passes is to the caller
 abbrev pub endSeen : Ending → VerdictSeen
-endSeen e = verdictSeen (Judged (e .yes) (opened (e .position)) (e .grade) (e .rounds)) (picture (e .position))
+endSeen e = verdictSeen (Judged (e .yes) (opened (e .position)) (boardGrade (e .yes) (e .grade)) (e .rounds)) (picture (e .position))
 
 -- the verdict from the cell that the start means
 unfoldable pub judgedFrom : (ℕ → List ℕ) → List ℕ → ℕ → VerdictSeen
-judgedFrom near b s = cond (eqb (cellOf b s) 255) (verdictSeen (Judged false 0 0 0) (replicate (length b) 10)) (endSeen (judge near b (threeRules near) s))
+judgedFrom near b s = cond (eqb (cellOf b s) 255) (verdictSeen (Judged false 0 (boardGrade false 0) 0) (replicate (length b) 10)) (endSeen (judge near b (threeRules near) s))
 
 -- the tests first; a refusal leaves the picture as it was
 abbrev pub verdictAfterTests : Tested → VerdictSeen → List ℕ → VerdictSeen

@@ -19,7 +19,7 @@ ghost use Rattle.refusals.specs.declared.Tested.the-variants.{Accepted as TestA
 ghost use Rattle.refusals.specs.Tests.{boardTested, startCell};
 ghost use Rattle.fitting.specs.Boards.{Accepted};
 ghost use Rattle.fitting.specs.Demand.{picture as pictureOf, opened};
-ghost use Rattle.verdict.specs.Verdict.{verdictSeen, judgedFrom, isSolvable, MeetsDemand3};
+ghost use Rattle.verdict.specs.Verdict.{boardGrade, verdictSeen, judgedFrom, isSolvable, MeetsDemand3};
 
 // What the verdict answers: a refusal, or yes or no, the opened cells, the grade and the rounds.
 pub enum Verdict {
@@ -53,6 +53,13 @@ fn close_marks(position: &mut [u8], picture: &mut [u8]) -> usize
     opened
 }
 
+// The grade of a board, from the verdict and the grade of the strongest rule that found a cell.
+fn board_grade(yes: bool, strongest: usize) -> usize
+    ensures { λ r. ⌜ r ≡ boardGrade yes strongest ⌝ }
+{
+    if yes { strongest } else { 4 }
+}
+
 // The verdict of an accepted board from the cell that its start means. The position after the start stands in `first`, and the passes work in `position`.
 fn judge_from(
     edgeless: bool,
@@ -72,11 +79,12 @@ fn judge_from(
     close_all(first);
     if cells[start] == 255 {
         let opened = close_marks(first, picture);
-        return Verdict::Judged(false, opened, 0, 0);
+        return Verdict::Judged(false, opened, board_grade(false, 0), 0);
     }
     let end = run_passes(edgeless, rows, columns, cells, start, first, position);
     let opened = close_marks(position, picture);
-    Verdict::Judged(end.yes, opened, end.grade, end.rounds)
+    let grade = board_grade(end.yes, end.grade);
+    Verdict::Judged(end.yes, opened, grade, end.rounds)
 }
 
 // The same, with positions of its own.

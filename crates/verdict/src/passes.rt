@@ -13,7 +13,7 @@ ghost use Rattle.fitting.specs.Passes.{allOpen, judge};
 ghost use Rattle.enumeration.specs.ThreeRules.{threeRules};
 ghost use Rattle.verdict.specs.Findings.{endOf};
 
-// How the passes end.
+// How the passes end. The grade is that of the strongest rule that found a cell, whether all safe cells are open or not.
 pub struct Ending {
     pub yes: bool,
     pub grade: usize,

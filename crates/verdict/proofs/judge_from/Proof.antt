@@ -1,5 +1,5 @@
--- `judge_from` meets its contract: every cell is closed; a start on a mine ends the call; else the start is opened and the passes run; and what is not open is
--- shown closed. Rests on FromStart and on the contracts of the calls. Assumes nothing.
+-- `judge_from` meets its contract: every cell is closed; a start on a mine ends the call; else the start is opened and the passes run; what is not open is
+-- shown closed, and the board is graded. Rests on FromStart and on the contracts of the calls. Assumes nothing.
 use native.Mathlib.Omega.{arith}
 use borrow.Author.Needs.{needs}
 use Rattle.verdict.proofs.FromStart.{closed-board, closed-all, start-mine, passes-told}
@@ -18,6 +18,9 @@ close-marks-requires c κs =
     let s = closed .before .before .before .before .before .before in
     omega (arith, closed-board (s .pre .0 .0) (s .args .start) (s .pre .1 .1) (s .pre .0 .1) (closed .close-all .ensures) .whole, s .pre .0 .3 .whole)
 
+board-grade-requires : tie.Need-board-grade-requires
+board-grade-requires c κs = search needs
+
 same-length : tie.Need-same-length
 same-length c = search needs
 
@@ -26,12 +29,13 @@ same-length-2 c = search needs
 
 returns : tie.Need-returns
 returns c =
-    let counted = c .before .before .before .before in
+    let counted = c .before .before .before .before .before in
     let tested = counted .before .before .before in
     let closed = tested .before .before .before .before in
     let s = closed .before .before .before .before .before .before in
     let all = closed-all (s .pre .0 .0) (s .args .start) (s .pre .1 .1) (s .pre .0 .1) (closed .close-all .ensures) in
     start-mine _ (s .pre .0 .0) (s .args .start) (s .pre .1 .1) (tested .if1 .taken) all (counted .close-marks .ensures .0) (counted .close-marks .ensures .1)
+    (c .board-grade .ensures)
 
 run-passes-requires : tie.Need-run-passes-requires
 run-passes-requires c κs =
@@ -47,6 +51,9 @@ run-passes-requires c κs =
 close-marks-requires-2 : tie.Need-close-marks-requires-2
 close-marks-requires-2 c κs = search needs
 
+board-grade-requires-2 : tie.Need-board-grade-requires-2
+board-grade-requires-2 c κs = search needs
+
 same-length-3 : tie.Need-same-length-3
 same-length-3 c = search needs
 
@@ -58,12 +65,12 @@ same-length-5 c = search needs
 
 returns-2 : tie.Need-returns-2
 returns-2 c =
-    let counted = c .before .before .before .before in
+    let counted = c .before .before .before .before .before in
     let ran = counted .before .before .before .before .before .before .before in
     let tested = ran .before .before .before in
     let s = tested .before .before .before .before .before .before .before .before .before .before in
     passes-told _ (s .pre .0 .0) (s .args .start) (s .pre .1 .1) (tested .if1 .left) (ran .run-passes .ensures .0) (ran .run-passes .ensures .1)
-    (counted .close-marks2 .ensures .0) (counted .close-marks2 .ensures .1)
+    (counted .close-marks2 .ensures .0) (counted .close-marks2 .ensures .1) (c .board-grade2 .ensures)
 
 pub judge-from-spec : {M : Type 1} → statement M
 judge-from-spec =
@@ -72,11 +79,13 @@ judge-from-spec =
     close-all-requires
     shared-slice-read-if1
     close-marks-requires
+    board-grade-requires
     same-length
     same-length-2
     returns
     run-passes-requires
     close-marks-requires-2
+    board-grade-requires-2
     same-length-3
     same-length-4
     same-length-5
