@@ -80,7 +80,7 @@ int main(void)
 {
     const uint8_t first[3] = {255, 1, 0}, first_picture[3] = {10, 1, 0};
     const uint8_t second[6] = {1, 255, 1, 1, 1, 1}, second_picture[6] = {10, 10, 10, 1, 10, 10};
-    const uint64_t first_counts[4] = {1, 2, 0, 0}, second_counts[4] = {0, 1, 0, 0};
+    const uint64_t first_counts[4] = {1, 2, 0, 0}, second_counts[4] = {0, 1, 4, 0};
     judge(1, 3, 0, 2, first, first_counts, first_picture);
     judge(2, 3, 1, 0, second, second_counts, second_picture);
     subtract();

@@ -40,8 +40,8 @@ enum lihvompa_cell {
 };
 
 /* The verdict on a board from a start; a start of 255, 255 means the first 0 in reading order. `picture`, rows * columns long, becomes what is open in the
- * end: an open cell's number, else 10. Counts: 1 for yes or 0 for no; opened cells; grade, the strongest rule that found a cell (1 direct, 2 subtraction,
- * 3 enumeration, 0 none); rounds, the passes that found a cell. Refusals 1, 2, 3, 4, 5, 7. */
+ * end: an open cell's number, else 10. Counts: 1 for yes or 0 for no; opened cells; grade, of a yes the strongest rule that found a cell (1 direct, 2
+ * subtraction, 3 enumeration, 0 none), of a no 4; rounds, the passes that found a cell. Refusals 1, 2, 3, 4, 5, 7. */
 uint8_t lihvompa_verdict(size_t rows, size_t columns, size_t start_row, size_t start_column, const uint8_t *cells, size_t cells_length,
                          uint8_t *picture, size_t picture_length, uint64_t *counts, size_t counts_length);
 

@@ -65,7 +65,7 @@ pub struct Verdict {
     pub yes: bool,
     /// How many cells are open in the end.
     pub opened: usize,
-    /// The strongest rule that found a cell: 1 direct, 2 subtraction, 3 enumeration, 0 none.
+    /// Of a yes the strongest rule that found a cell: 1 direct, 2 subtraction, 3 enumeration, 0 none. Of a no 4.
     pub grade: usize,
     /// How many passes found a cell.
     pub rounds: usize,

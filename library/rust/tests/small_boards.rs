@@ -81,7 +81,7 @@ fn case_9_all_mines_but_the_start() {
 #[test]
 fn case_10_stuck_at_the_start() {
     let v = verdict(2, 3, (1, 0), &[1, 255, 1, 1, 1, 1]).unwrap();
-    assert_eq!((v.yes, v.opened), (false, 1));
+    assert_eq!((v.yes, v.opened, v.grade, v.rounds), (false, 1, 4, 0));
     assert_eq!(v.picture, [10, 10, 10, 1, 10, 10]);
 }
 
@@ -96,7 +96,7 @@ fn case_11_thirty_two_rows() {
 #[test]
 fn the_record_example() {
     assert_eq!(judged(1, 3, (0, 2), &[255, 1, 0]), (true, 2, 0, 0));
-    assert_eq!(judged(1, 3, (0, 0), &[1, 255, 1]), (false, 1, 1, 1));
+    assert_eq!(judged(1, 3, (0, 0), &[1, 255, 1]), (false, 1, 4, 1));
     assert_eq!(verdict(0, 1, (0, 0), &[]), Err(Refusal::Size));
 }
 
@@ -105,7 +105,7 @@ fn boards_by_hand() {
     // the 0s open every safe cell
     assert_eq!(judged(3, 3, (2, 2), &[255, 1, 0, 1, 1, 0, 0, 0, 0]), (true, 8, 0, 0));
     // direct finds the mine, and nothing beyond it
-    assert_eq!(judged(1, 5, (0, 0), &[0, 1, 255, 1, 0]), (false, 2, 1, 1));
+    assert_eq!(judged(1, 5, (0, 0), &[0, 1, 255, 1, 0]), (false, 2, 4, 1));
     // the 0s of the last row open the second; there subtraction finds the rest, as in case 6
     let board = [1, 255, 1, 1, 1, 1, 0, 0, 0];
     assert_eq!(judged(3, 3, (2, 0), &board), (true, 8, 2, 1));
@@ -115,7 +115,7 @@ fn boards_by_hand() {
 #[test]
 fn a_start_on_a_mine_opens_nothing() {
     let v = verdict(1, 3, (0, 0), &[255, 1, 0]).unwrap();
-    assert_eq!((v.yes, v.opened, v.grade, v.rounds), (false, 0, 0, 0));
+    assert_eq!((v.yes, v.opened, v.grade, v.rounds), (false, 0, 4, 0));
     assert_eq!(v.picture, [10, 10, 10]);
 }
 
