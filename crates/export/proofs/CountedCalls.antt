@@ -4,6 +4,7 @@
 use mathlib.Core.Path.{_≡_, refl, sym, ap, _∙_}
 use mathlib.Core.List.{List, [], _∷_}
 use Prim.Native.Nat.{ℕ, _<_}
+use native.Mathlib.Omega.{arith}
 use lib.ListN.{length, getD}
 use Rattle.grid.specs.Window.{flat}
 use Rattle.refusals.specs.declared.Refusal.{Refusal}
@@ -20,7 +21,7 @@ use Rattle.tables.specs.declared.TableAnswer.the-variants as table
 use Rattle.tables.specs.Tables.{tableNumber, tableSolutions, tableGroups}
 use Rattle.tables.specs.Listed.{TableCall}
 use Rattle.export.specs.Returned.{Returned, returned, laid, answered}
-use Rattle.export.proofs.FirstCounts.{first-count, second-count}
+use Rattle.export.proofs.StoredCounts.{count-stored}
 
 -- two counts are those of an answer, where it is accepted
 abbrev CountsOf : ℕ → ℕ → ℕ → List ℕ → Type 0
@@ -28,8 +29,10 @@ CountsOf number a b after = number ≡ 0 → (getD after 0 0 ≡ a) × (getD aft
 
 -- counts that are laid over a slice with room for them
 laid-counts : (number a b : ℕ) (counts : List ℕ) {after : List ℕ} → after ≡ laid (a ∷ b ∷ []) counts → 1 < length counts → CountsOf number a b after
-laid-counts number a b counts is room _ =
-    (ap (λ (l : List ℕ). getD l 0 0) is ∙ first-count a b [] counts room, ap (λ (l : List ℕ). getD l 1 0) is ∙ second-count a b [] counts room)
+laid-counts number a b counts {after} is room _ = (stored 0 (omega arith) (omega (arith, room)), stored 1 (omega arith) room)
+  where
+    stored : (k : ℕ) → k < 2 → k < length counts → getD after k 0 ≡ getD (a ∷ b ∷ []) k 0
+    stored k h there = ap (λ (l : List ℕ). getD l k 0) is ∙ count-stored (a ∷ b ∷ []) counts k h there
 
 -- ---- of a number and counts, instead of the answer's
 

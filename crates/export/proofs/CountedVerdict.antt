@@ -1,22 +1,50 @@
--- Demand 3 of the verdict as C and Rust see it: where there is room for two counts, it holds of them and of the picture, as is_solvable's contract has it of the
--- answer. Assumes nothing.
-use mathlib.Core.Path.{_≡_}
-use mathlib.Core.Bool.{Bool}
+-- The verdict as C and Rust see it. Where there is room for two counts, demand 3 holds of them and of the picture, as is_solvable's contract has it of the
+-- answer; where there is room for three, the third, the grade, is 4 exactly where the first says no. Assumes nothing.
+use mathlib.Core.Path.{_≡_, refl}
+use mathlib.Core.Logic.{_↔_}
+use mathlib.Core.Bool.{Bool, true, false}
 use mathlib.Core.List.{List, [], _∷_}
 use Prim.Native.Nat.{ℕ, _<_}
+use native.Mathlib.Omega.{arith}
 use lib.Dec.{eqb}
 use lib.ListN.{length, getD}
+use borrow.Author.Tests.{eqb-false}
 use Rattle.lists.specs.Lists.{bit}
+use Rattle.lists.proofs.Tests.{clash}
+use Rattle.grid.specs.Window.{flat}
+use Rattle.refusals.specs.Refusals.{refusalNumber}
+use Rattle.refusals.proofs.FirstFailure.{refusal-not-zero}
 use Rattle.fitting.specs.Demand.{Demand3}
 use Rattle.verdict.specs.declared.Verdict.{Verdict}
-use Rattle.verdict.specs.declared.Verdict.the-variants.{Judged}
-use Rattle.verdict.specs.Verdict.{MeetsDemand3}
-use Rattle.export.specs.Returned.{laid}
-use Rattle.export.proofs.FirstCounts.{first-count, second-count}
+use Rattle.verdict.specs.declared.Verdict.the-variants.{Refused, Judged}
+use Rattle.verdict.specs.Verdict.{verdictNumber, verdictValues, isSolvable, MeetsDemand3}
+use Rattle.verdict.proofs.Bounds.{GradeTells, grade-tells}
+use Rattle.export.specs.Returned.{Returned, laid, verdictReturned}
+use Rattle.export.proofs.StoredCounts.{count-stored}
 
 -- demand 3 of the first two counts
 pub counted-demand-3 : {near : ℕ → List ℕ} {b shown : List ℕ} (counts : List ℕ) {after : List ℕ} {s n grade rounds : ℕ} {v : Bool} {answer : Verdict}
     → answer ≡ Judged v n grade rounds → MeetsDemand3 near b s answer shown → after ≡ laid (bit v ∷ n ∷ grade ∷ rounds ∷ []) counts → 1 < length counts
     → Demand3 near b s (eqb (getD after 0 0) 1) (getD after 1 0) shown
 counted-demand-3 counts {n = n} {grade = grade} {rounds = rounds} {v = v} which meets is room =
-    rw (is, first-count (bit v) n (grade ∷ rounds ∷ []) counts room, second-count (bit v) n (grade ∷ rounds ∷ []) counts room) (rw which at meets .1)
+    let values = bit v ∷ n ∷ grade ∷ rounds ∷ [] in
+    rw (is, count-stored values counts 0 (omega arith) (omega (arith, room)), count-stored values counts 1 (omega arith) room) (rw which at meets .1)
+
+-- the third count is 4 exactly where the first is 0
+graded : (v : Verdict) (counts : List ℕ) → GradeTells v → verdictNumber v ≡ 0 → 2 < length counts
+    → (getD (laid (verdictValues v) counts) 2 0 ≡ 4) ↔ (getD (laid (verdictValues v) counts) 0 0 ≡ 0)
+graded (Refused r) counts tells answered room = absurd (eqb-false (refusalNumber r) 0 (refusal-not-zero r) answered)
+graded (Judged v n grade rounds) counts tells answered room =
+    let values = bit v ∷ n ∷ grade ∷ rounds ∷ [] in
+    rw (count-stored values counts 0 (omega arith) (omega (arith, room)), count-stored values counts 2 (omega arith) room) (go v (tells .four refl))
+  where
+    go : (v : Bool) → (grade ≡ 4) ↔ (eqb (bit v) 1 ≡ false) → (grade ≡ 4) ↔ (bit v ≡ 0)
+    go true (there, back) = (λ e. clash true refl (there e), λ e. absurd (omega (arith, e)))
+    go false (there, back) = (λ _. refl, λ _. back refl)
+
+pub counted-grade : (rows columns row column : ℕ) (b shown counts : List ℕ) (after : Returned)
+    → after ≡ verdictReturned (isSolvable flat rows columns row column b shown) counts → after .number ≡ 0 → 2 < length counts
+    → (getD (after .counts) 2 0 ≡ 4) ↔ (getD (after .counts) 0 0 ≡ 0)
+unfolding verdictReturned
+counted-grade rows columns row column b shown counts after is answered room =
+    rw is (graded (isSolvable flat rows columns row column b shown .answer) counts (grade-tells flat rows columns row column b shown) (rw is at answered) room)
