@@ -252,9 +252,9 @@ pub extern "C" fn lihvompa_verdict(
     ensures { λ r. ⌜ returned r (now (picture .exit) ∷ []) (now (counts .exit))
         ≡ verdictReturned (isSolvable flat rows columns «start_row» «start_column» (now (cells .entry)) (now (picture .entry))) (now (counts .entry)) ⌝ }
     ensures { λ r. ⌜ (boardTested flat rows columns «start_row» «start_column» (now (cells .entry)) (length (now (picture .entry)) ∷ []) ≡ Accepted
-        → cellOf (now (cells .entry)) (startCell columns «start_row» «start_column» (now (cells .entry))) ≢ 255
+        → cellOf (now (cells .entry)) (startCell columns «start_row» «start_column») ≢ 255
         → 1 < length (now (counts .entry))
-        → Demand3 (neighbours flat rows columns) (now (cells .entry)) (startCell columns «start_row» «start_column» (now (cells .entry)))
+        → Demand3 (neighbours flat rows columns) (now (cells .entry)) (startCell columns «start_row» «start_column»)
         (eqb (getD (now (counts .exit)) 0 0) 1) (getD (now (counts .exit)) 1 0) (now (picture .exit))) ⌝ }
 {
     let verdict = is_solvable(FLAT, rows, columns, start_row, start_column, cells, picture);

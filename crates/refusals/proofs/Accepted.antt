@@ -15,7 +15,7 @@ use Rattle.grid.specs.Window.{neighbours, Board}
 use Rattle.refusals.specs.declared.Tested.the-variants.{Accepted}
 use Rattle.refusals.specs.Refusals.{tested}
 use Rattle.refusals.specs.SharedTests.{cellTests}
-use Rattle.refusals.specs.Tests.{sizeOk, lengthOk, roomOk, boardCellsOk, positionCellsOk, startOk, minesBeside, numbersOk, zeroOk, startCell, boardTests, boardTested, positionTests, positionTested, deductionTests, deductionTested, patternTests, patternTested}
+use Rattle.refusals.specs.Tests.{sizeOk, lengthOk, roomOk, boardCellsOk, positionCellsOk, startOk, minesBeside, numbersOk, startCell, boardTests, boardTested, positionTests, positionTested, deductionTests, deductionTested, patternTests, patternTested}
 use Rattle.refusals.proofs.Starts.{startCell-within}
 use Rattle.refusals.proofs.CellValues.{board-cell, position-shows}
 use Rattle.refusals.proofs.Numbers.{numberOk, number-counts}
@@ -30,8 +30,7 @@ pub record AcceptedBoard (edgeless : Bool) (rows columns row column : ℕ) (b le
   pub cells : boardCellsOk b ≡ true
   pub start : startOk rows columns row column ≡ true
   pub numbers : numbersOk (neighbours edgeless rows columns) b ≡ true
-  pub has-zero : zeroOk row column b ≡ true
-  pub start-within : startCell columns row column b < length b
+  pub start-within : startCell columns row column < length b
 
 pub record AcceptedPosition (rows columns : ℕ) (p : List ℕ) : Type 0 where
   pub board : Board p rows columns
@@ -75,8 +74,7 @@ accepted-board edgeless rows columns row column b lent h =
       cells = passes 2 (omega arith);
       start = passes 3 (omega arith);
       numbers = passes 4 (omega arith);
-      has-zero = passes 5 (omega arith);
-      start-within = startCell-within rows columns row column (passes 3 (omega arith)) b (board .whole) (passes 5 (omega arith));
+      start-within = startCell-within rows columns row column (passes 3 (omega arith)) b (board .whole);
     }
 
 -- each lent length, by its place in the list

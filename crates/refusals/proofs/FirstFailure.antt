@@ -2,19 +2,19 @@
 -- that of a test which fails with every test before it passing, and where the list is in the order of the numbers it has the lowest number of those
 -- that apply. By recursion on the list. Assumes nothing.
 use mathlib.Core.Path.{_≡_, refl, sym, _∙_, ap}
-use mathlib.Core.Logic.{inl, inr}
+use mathlib.Core.Logic.{inl, inr, _≢_}
 use mathlib.Core.Bool.{Bool, true, false, not, cond, _&&_, _||_}
 use mathlib.Core.List.{List, [], _∷_, _++_}
 use Prim.Native.Nat.{ℕ, _<_}
 use native.Mathlib.Omega.{arith}
 use lib.Dec.{eqb, leb}
 use lib.ListN.{length, getD}
-use borrow.Author.Tests.{not-true, not-false, le-leb}
-use Rattle.lists.specs.Lists.{all}
+use borrow.Author.Tests.{not-true, not-false, le-leb, ne-eqb}
+use Rattle.lists.specs.Lists.{all, has}
 use Rattle.lists.proofs.All.{all-at}
-use Rattle.lists.proofs.Tests.{Decided, decided, and-left, and-right, or-right}
+use Rattle.lists.proofs.Tests.{Decided, decided, clash, and-left, and-right, or-right}
 use Rattle.refusals.specs.declared.Refusal.{Refusal}
-use Rattle.refusals.specs.declared.Refusal.the-variants.{Size, Length, Cell, Start, Number, Contradiction, NoZero, Block, Table, Mark, Short}
+use Rattle.refusals.specs.declared.Refusal.the-variants.{Size, Length, Cell, Start, Number, Contradiction, Block, Table, Mark, Short}
 use Rattle.refusals.specs.declared.Tested.{Tested}
 use Rattle.refusals.specs.declared.Tested.the-variants.{Accepted, Refused}
 use Rattle.refusals.specs.Refusals.{refusalNumber, Test, test, tested}
@@ -71,19 +71,32 @@ tested-append ts us e = rw (← e) (both ts)
 
 -- ---- refusal
 
--- no refusal has the number 0, which is that of an answer
+-- the numbers that are given
+abbrev pub givenNumbers : List ℕ
+givenNumbers = 1 ∷ 2 ∷ 3 ∷ 4 ∷ 5 ∷ 6 ∷ 8 ∷ 9 ∷ 10 ∷ 11 ∷ []
+
+refusal-given : (r : Refusal) → has givenNumbers (refusalNumber r) ≡ true
+refusal-given Size = refl
+refusal-given Length = refl
+refusal-given Cell = refl
+refusal-given Start = refl
+refusal-given Number = refl
+refusal-given Contradiction = refl
+refusal-given Block = refl
+refusal-given Table = refl
+refusal-given Mark = refl
+refusal-given Short = refl
+
+refusal-not : (n : ℕ) → has givenNumbers n ≡ false → (r : Refusal) → refusalNumber r ≢ n
+refusal-not n out r e = clash (has givenNumbers n) (rw e at (refusal-given r)) out
+
+-- 0 is the number of an answer
 pub refusal-not-zero : (r : Refusal) → eqb (refusalNumber r) 0 ≡ false
-refusal-not-zero Size = refl
-refusal-not-zero Length = refl
-refusal-not-zero Cell = refl
-refusal-not-zero Start = refl
-refusal-not-zero Number = refl
-refusal-not-zero Contradiction = refl
-refusal-not-zero NoZero = refl
-refusal-not-zero Block = refl
-refusal-not-zero Table = refl
-refusal-not-zero Mark = refl
-refusal-not-zero Short = refl
+refusal-not-zero r = ne-eqb (refusalNumber r) 0 (refusal-not 0 refl r)
+
+-- 7 is never given again
+pub refusal-not-seven : (r : Refusal) → refusalNumber r ≢ 7
+refusal-not-seven r = refusal-not 7 refl r
 
 -- a test of the list fails and gives r, and every test before it passes
 pub record FirstFailing (ts : List Test) (r : Refusal) : Type 0 where

@@ -3,11 +3,11 @@ use mathlib.Core.Bool.{Bool, cond}
 use mathlib.Core.List.{List, [], _∷_}
 use Prim.Native.Nat.{ℕ}
 use Rattle.refusals.specs.declared.Refusal.{Refusal}
-use Rattle.refusals.specs.declared.Refusal.the-variants.{Size, Length, Cell, Start, Number, Contradiction, NoZero, Block, Table, Mark, Short}
+use Rattle.refusals.specs.declared.Refusal.the-variants.{Size, Length, Cell, Start, Number, Contradiction, Block, Table, Mark, Short}
 use Rattle.refusals.specs.declared.Tested.{Tested}
 use Rattle.refusals.specs.declared.Tested.the-variants.{Accepted, Refused}
 
--- the number of a refusal
+-- the number of a refusal; 7, which a start of 255,255 had, is not given again
 abbrev pub refusalNumber : Refusal → ℕ
 refusalNumber Size = 1
 refusalNumber Length = 2
@@ -15,7 +15,6 @@ refusalNumber Cell = 3
 refusalNumber Start = 4
 refusalNumber Number = 5
 refusalNumber Contradiction = 6
-refusalNumber NoZero = 7
 refusalNumber Block = 8
 refusalNumber Table = 9
 refusalNumber Mark = 10

@@ -1,12 +1,12 @@
--- The tests of refusals 1, 2, 3, 4, 5 and 7 of SPECIFICATION 3.1, each as a Bool that is true where the input passes, and the lists of tests that
+-- The tests of refusals 1 to 5 of SPECIFICATION 3.1, each as a Bool that is true where the input passes, and the lists of tests that
 -- each kind of call makes, in the order of 3.3. Assumes nothing.
-use mathlib.Core.Bool.{Bool, not, cond, _&&_, _||_}
+use mathlib.Core.Bool.{Bool, _&&_, _||_}
 use mathlib.Core.List.{List, [], _∷_}
 use Prim.Native.Nat.{ℕ, _+_, _*_}
 use lib.Dec.{leb, ltb, eqb}
 use lib.ListN.{length}
-use Rattle.lists.specs.Lists.{every, all, any, count, firstPlace}
-use Rattle.refusals.specs.declared.Refusal.the-variants.{Size, Length, Cell, Start, Number, NoZero}
+use Rattle.lists.specs.Lists.{every, all, count}
+use Rattle.refusals.specs.declared.Refusal.the-variants.{Size, Length, Cell, Start, Number}
 use Rattle.refusals.specs.declared.Tested.{Tested}
 use Rattle.grid.specs.Cells.{isBoardCell, isPositionCell, cellOf}
 use Rattle.grid.specs.Window.{neighbours}
@@ -31,13 +31,9 @@ boardCellsOk b = all isBoardCell b
 unfoldable pub positionCellsOk : List ℕ → Bool
 positionCellsOk p = all isPositionCell p
 
--- the start of 255,255, which means the first 0 in reading order
-abbrev pub isOpenStart : ℕ → ℕ → Bool
-isOpenStart row column = eqb row 255 && eqb column 255
-
--- 4, start: on the board, or 255,255
+-- 4, start: on the board
 unfoldable pub startOk : ℕ → ℕ → ℕ → ℕ → Bool
-startOk rows columns row column = (ltb row rows && ltb column columns) || isOpenStart row column
+startOk rows columns row column = ltb row rows && ltb column columns
 
 -- how many neighbours of a cell are mines
 abbrev pub minesBeside : (ℕ → List ℕ) → List ℕ → ℕ → ℕ
@@ -47,13 +43,9 @@ minesBeside near b c = count (λ d. eqb (cellOf b d) 255) (near c)
 unfoldable pub numbersOk : (ℕ → List ℕ) → List ℕ → Bool
 numbersOk near b = every (length b) (λ c. eqb (cellOf b c) 255 || eqb (minesBeside near b c) (cellOf b c))
 
--- 7, no zero: a start of 255,255 has a 0 to mean
-unfoldable pub zeroOk : ℕ → ℕ → List ℕ → Bool
-zeroOk row column b = not (isOpenStart row column) || any (λ v. eqb v 0) b
-
--- the cell that a start means
-unfoldable pub startCell : ℕ → ℕ → ℕ → List ℕ → ℕ
-startCell columns row column b = cond (isOpenStart row column) (firstPlace (λ v. eqb v 0) b) (row * columns + column)
+-- the cell of a start
+unfoldable pub startCell : ℕ → ℕ → ℕ → ℕ
+startCell columns row column = row * columns + column
 
 -- a board call, lent slices of these lengths
 abbrev pub boardTests : Bool → ℕ → ℕ → ℕ → ℕ → List ℕ → List ℕ → List Test
@@ -63,7 +55,6 @@ boardTests edgeless rows columns row column b lent =
     ∷ test (boardCellsOk b) Cell
     ∷ test (startOk rows columns row column) Start
     ∷ test (numbersOk (neighbours edgeless rows columns) b) Number
-    ∷ test (zeroOk row column b) NoZero
     ∷ []
 
 unfoldable pub boardTested : Bool → ℕ → ℕ → ℕ → ℕ → List ℕ → List ℕ → Tested

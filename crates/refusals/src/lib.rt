@@ -4,14 +4,14 @@ use grid::window::count_beside;
 use grid::window::wide_byte;
 ghost use mathlib.Core.Path.{_≡_};
 ghost use mathlib.Core.Bool.{true, cond, _&&_};
-ghost use lib.Dec.{leb, eqb};
-ghost use Rattle.lists.specs.Lists.{all, firstPlace};
+ghost use lib.Dec.{leb};
+ghost use Rattle.lists.specs.Lists.{all};
 ghost use Rattle.grid.specs.Window.{neighbours, Sized, Board};
 ghost use Rattle.refusals.specs.Refusals.{refusalNumber, tested};
-ghost use Rattle.refusals.specs.Tests.{sizeOk, lengthOk, roomOk, startOk, numbersOk, zeroOk, isOpenStart, startCell, boardTested, positionTested, deductionTested, patternTested};
+ghost use Rattle.refusals.specs.Tests.{sizeOk, lengthOk, roomOk, startOk, numbersOk, startCell, boardTested, positionTested, deductionTested, patternTested};
 ghost use Rattle.refusals.specs.SharedTests.{cellIn, cellTests};
 
-// What a call may refuse, in the order of their numbers.
+// What a call may refuse, in the order of their numbers, of which 7 is not given again.
 pub enum Refusal {
     Size,
     Length,
@@ -19,7 +19,6 @@ pub enum Refusal {
     Start,
     Number,
     Contradiction,
-    NoZero,
     Block,
     Table,
     Mark,
@@ -43,7 +42,6 @@ pub fn refusal_number(refusal: Refusal) -> u8
         Refusal::Start => 4,
         Refusal::Number => 5,
         Refusal::Contradiction => 6,
-        Refusal::NoZero => 7,
         Refusal::Block => 8,
         Refusal::Table => 9,
         Refusal::Mark => 10,
@@ -120,23 +118,11 @@ fn cells_ok(low: u8, high: u8, cells: &[u8]) -> bool
     true
 }
 
-// Is the start 255,255, which means the first 0?
-pub fn is_open_start(row: usize, column: usize) -> bool
-    ensures { λ r. ⌜ r ≡ isOpenStart row column ⌝ }
-{
-    if row == 255 { column == 255 } else { false }
-}
-
-// Test 4: the start is on the board, or 255,255.
+// Test 4: the start is on the board.
 pub fn start_ok(rows: usize, columns: usize, row: usize, column: usize) -> bool
     ensures { λ r. ⌜ r ≡ startOk rows columns row column ⌝ }
 {
-    if row < rows {
-        if column < columns {
-            return true;
-        }
-    }
-    is_open_start(row, column)
+    if row < rows { column < columns } else { false }
 }
 
 // Test 5: each safe cell's number is its count of neighbouring mines.
@@ -165,39 +151,12 @@ pub fn numbers_ok(edgeless: bool, rows: usize, columns: usize, cells: &[u8]) -> 
     true
 }
 
-// The place of the first 0 in reading order; the number of cells where there is none.
-pub fn first_zero(cells: &[u8]) -> usize
-    ensures { λ r. ⌜ r ≡ firstPlace (λ v. eqb v 0) (now (cells .entry)) ⌝ }
-{
-    let mut c = 0;
-    while c < cells.len() {
-        if cells[c] == 0 {
-            return c;
-        }
-        c += 1;
-    }
-    c
-}
-
-// Test 7: a start of 255,255 has a 0 to mean.
-pub fn zero_ok(row: usize, column: usize, cells: &[u8]) -> bool
-    ensures { λ r. ⌜ r ≡ zeroOk row column (now (cells .entry)) ⌝ }
-{
-    if is_open_start(row, column) {
-        return first_zero(cells) < cells.len();
-    }
-    true
-}
-
-// The cell that an accepted start means.
-pub fn start_cell(rows: usize, columns: usize, row: usize, column: usize, cells: &[u8]) -> usize
+// The cell of a start on the board.
+pub fn start_cell(rows: usize, columns: usize, row: usize, column: usize) -> usize
     requires { ⌜ Sized rows columns ⌝ }
     requires { ⌜ startOk rows columns row column ≡ true ⌝ }
-    ensures { λ r. ⌜ r ≡ startCell columns row column (now (cells .entry)) ⌝ }
+    ensures { λ r. ⌜ r ≡ startCell columns row column ⌝ }
 {
-    if is_open_start(row, column) {
-        return first_zero(cells);
-    }
     row * columns + column
 }
 
@@ -245,11 +204,10 @@ pub fn test_board(
     match test_cells(1, rows, columns, 255, 255, cells) {
         Tested::Refused(refusal) => Tested::Refused(refusal),
         Tested::Accepted => {
+            let start = start_ok(rows, columns, row, column);
             let numbers = numbers_ok(edgeless, rows, columns, cells);
-            let zero = zero_ok(row, column, cells);
-            let last = first_refusal(zero, Refusal::NoZero, Tested::Accepted);
-            let later = first_refusal(numbers, Refusal::Number, last);
-            first_refusal(start_ok(rows, columns, row, column), Refusal::Start, later)
+            let later = first_refusal(numbers, Refusal::Number, Tested::Accepted);
+            first_refusal(start, Refusal::Start, later)
         }
     }
 }

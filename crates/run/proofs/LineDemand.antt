@@ -18,8 +18,8 @@ use Rattle.verdict.proofs.Bounds.{GradeTells, refusal-tells, grade-tells}
 use Rattle.record_lines.specs.Answers.{pictureSize, boardVerdict}
 
 module _ (rows columns row column : ℕ) (b : List ℕ) where
-  pub line-demand-3 : boardTested flat rows columns row column b (pictureSize rows columns ∷ []) ≡ Accepted → cellOf b (startCell columns row column b) ≢ 255
-      → (shown : List ℕ) × MeetsDemand3 (neighbours flat rows columns) b (startCell columns row column b) (boardVerdict Plain rows columns row column b) shown
+  pub line-demand-3 : boardTested flat rows columns row column b (pictureSize rows columns ∷ []) ≡ Accepted → cellOf b (startCell columns row column) ≢ 255
+      → (shown : List ℕ) × MeetsDemand3 (neighbours flat rows columns) b (startCell columns row column) (boardVerdict Plain rows columns row column b) shown
   unfolding boardVerdict
   line-demand-3 tests safe = (
     isSolvable flat rows columns row column b (replicate (pictureSize rows columns) 0) .shown,

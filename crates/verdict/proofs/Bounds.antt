@@ -76,7 +76,7 @@ refusal-tells r = record {
   none = λ e. clash true refl (sym e);
 }
 
--- ---- from the cell that the start means
+-- ---- from the start's cell
 
 module _ (near : ℕ → List ℕ) (b : List ℕ) (s : ℕ) where
   abbrev ends : Ending
@@ -112,7 +112,7 @@ module _ (edgeless : Bool) (rows columns row column : ℕ) (b shown : List ℕ) 
   tests = boardTested edgeless rows columns row column b (length shown ∷ [])
 
   abbrev judged : VerdictSeen
-  judged = judgedFrom (neighbours edgeless rows columns) b (startCell columns row column b)
+  judged = judgedFrom (neighbours edgeless rows columns) b (startCell columns row column)
 
   -- what the grade tells
   pub grade-tells : GradeTells (isSolvable edgeless rows columns row column b shown .answer)
@@ -120,7 +120,7 @@ module _ (edgeless : Bool) (rows columns row column : ℕ) (b shown : List ℕ) 
   grade-tells = go tests
     where
       go : (t : Tested) → GradeTells (verdictAfterTests t judged shown .answer)
-      go Accepted = judged-grade (neighbours edgeless rows columns) b (startCell columns row column b)
+      go Accepted = judged-grade (neighbours edgeless rows columns) b (startCell columns row column)
       go (TestRefused x) = refusal-tells x
 
   -- rounds never exceed the cells
@@ -130,7 +130,7 @@ module _ (edgeless : Bool) (rows columns row column : ℕ) (b shown : List ℕ) 
     where
       go : (t : Tested) → tests ≡ t → verdictRounds (verdictAfterTests t judged shown .answer) ≤ length b
       go Accepted e =
-          judged-rounds edgeless rows columns b (startCell columns row column b) (tested-accepted edgeless rows columns row column b (length shown ∷ []) e)
+          judged-rounds edgeless rows columns b (startCell columns row column) (tested-accepted edgeless rows columns row column b (length shown ∷ []) e)
           (accepted-board edgeless rows columns row column b (length shown ∷ []) e .start-within)
       go (TestRefused x) e = omega arith
 

@@ -33,9 +33,9 @@ pub refusal-never-meets : {P : Type 0} {near : ℕ → List ℕ} {b : List ℕ} 
 refusal-never-meets {r = r} is (answered, _) = absurd (eqb-false (refusalNumber r) 0 (refusal-not-zero r) (rw is at answered))
 
 module _ (edgeless : Bool) (rows columns row column : ℕ) (b shown : List ℕ) where
-  -- the cell that the start means
+  -- the start's cell
   abbrev start : ℕ
-  start = startCell columns row column b
+  start = startCell columns row column
 
   abbrev passed : Ending
   passed = judge (neighbours edgeless rows columns) b (threeRules (neighbours edgeless rows columns)) start
@@ -52,14 +52,14 @@ module _ (edgeless : Bool) (rows columns row column : ℕ) (b shown : List ℕ) 
 
   module _ (tests : boardTested edgeless rows columns row column b (length shown ∷ []) ≡ Accepted) where
     -- the tests accept: the verdict is that from the start's cell
-    pub tests-accept : isSolvable edgeless rows columns row column b shown ≡ judgedFrom (neighbours edgeless rows columns) b (startCell columns row column b)
+    pub tests-accept : isSolvable edgeless rows columns row column b shown ≡ judgedFrom (neighbours edgeless rows columns) b (startCell columns row column)
     unfolding isSolvable
     tests-accept = rw tests
 
-    module _ (safe : cellOf b (startCell columns row column b) ≢ 255) where
+    module _ (safe : cellOf b (startCell columns row column) ≢ 255) where
       -- and with a safe start it is the end of the passes
       pub passes-seen : isSolvable edgeless rows columns row column b shown
-          ≡ endSeen (judge (neighbours edgeless rows columns) b (threeRules (neighbours edgeless rows columns)) (startCell columns row column b))
+          ≡ endSeen (judge (neighbours edgeless rows columns) b (threeRules (neighbours edgeless rows columns)) (startCell columns row column))
       unfolding judgedFrom
       passes-seen = tests-accept ∙ rw (ne-eqb (cellOf b start) 255 safe)
 
@@ -71,7 +71,7 @@ module _ (edgeless : Bool) (rows columns row column : ℕ) (b shown : List ℕ) 
 
       -- demand 3 of an answer that is the definition's
       pub answer-demand-3 : (r : Verdict) (after : List ℕ) → verdictSeen r after ≡ isSolvable edgeless rows columns row column b shown
-          → MeetsDemand3 (neighbours edgeless rows columns) b (startCell columns row column b) r after
+          → MeetsDemand3 (neighbours edgeless rows columns) b (startCell columns row column) r after
       answer-demand-3 r after e =
           let told = e ∙ passes-seen in
           rw (ap (λ (w : VerdictSeen). w .answer) told, ap (λ (w : VerdictSeen). w .shown) told) (refl, rw (bit-is-one (passed .yes)) passes-demand-3)

@@ -1,4 +1,4 @@
--- The verdict from the cell that the start means, step by step as the code takes them: an array has room for the board's cells; every cell of a position is
+-- The verdict from the start's cell, step by step as the code takes them: an array has room for the board's cells; every cell of a position is
 -- closed; a start on a mine is judged no; else the start is opened, which leads to the position where the passes begin, and the end of the passes, graded, is
 -- what the caller sees. Assumes nothing.
 use mathlib.Core.Path.{_≡_, refl, sym, ap, _∙_}

@@ -1,4 +1,4 @@
--- The verdict as a caller sees it (SPECIFICATION 4.2 and 9): refusals 1, 2, 3, 4, 5 and 7; a start on a mine is judged
+-- The verdict as a caller sees it (SPECIFICATION 4.2 and 9): refusals 1 to 5; a start on a mine is judged
 -- no, with nothing opened; else the passes over the three rules, and the picture of the position that they end with. A no has the grade 4. Assumes nothing.
 use mathlib.Core.Path.{_≡_}
 use mathlib.Core.Bool.{Bool, false, cond}
@@ -59,7 +59,7 @@ verdictSeen a shown = record { answer = a; shown = shown }
 abbrev pub endSeen : Ending → VerdictSeen
 endSeen e = verdictSeen (Judged (e .yes) (opened (e .position)) (boardGrade (e .yes) (e .grade)) (e .rounds)) (picture (e .position))
 
--- the verdict from the cell that the start means
+-- the verdict from the start's cell
 unfoldable pub judgedFrom : (ℕ → List ℕ) → List ℕ → ℕ → VerdictSeen
 judgedFrom near b s = cond (eqb (cellOf b s) 255) (verdictSeen (Judged false 0 (boardGrade false 0) 0) (replicate (length b) 10)) (endSeen (judge near b (threeRules near) s))
 
@@ -70,7 +70,7 @@ verdictAfterTests (TestRefused r) w shown = verdictSeen (Refused r) shown
 
 unfoldable pub isSolvable : Bool → ℕ → ℕ → ℕ → ℕ → List ℕ → List ℕ → VerdictSeen
 isSolvable edgeless rows columns row column b shown =
-    verdictAfterTests (boardTested edgeless rows columns row column b (length shown ∷ [])) (judgedFrom (neighbours edgeless rows columns) b (startCell columns row column b)) shown
+    verdictAfterTests (boardTested edgeless rows columns row column b (length shown ∷ [])) (judgedFrom (neighbours edgeless rows columns) b (startCell columns row column)) shown
 
 -- demand 3 of an answer that isn't a refusal
 abbrev pub MeetsDemand3 : (ℕ → List ℕ) → List ℕ → ℕ → Verdict → List ℕ → Type 0

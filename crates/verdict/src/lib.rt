@@ -60,7 +60,7 @@ fn board_grade(yes: bool, strongest: usize) -> usize
     if yes { strongest } else { 4 }
 }
 
-// The verdict of an accepted board from the cell that its start means. The position after the start stands in `first`, and the passes work in `position`.
+// The verdict of an accepted board from its start's cell. The position after the start stands in `first`, and the passes work in `position`.
 fn judge_from(
     edgeless: bool,
     rows: usize,
@@ -128,8 +128,8 @@ pub fn is_solvable(
 ) -> Verdict
     ensures { λ r. ⌜ verdictSeen r (now (picture .exit)) ≡ isSolvable edgeless rows columns «start_row» «start_column» (now (cells .entry)) (now (picture .entry)) ⌝ }
     ensures { λ r. ⌜ (boardTested edgeless rows columns «start_row» «start_column» (now (cells .entry)) (length (now (picture .entry)) ∷ []) ≡ TestAccepted
-        → cellOf (now (cells .entry)) (startCell columns «start_row» «start_column» (now (cells .entry))) ≢ 255
-        → MeetsDemand3 (neighbours edgeless rows columns) (now (cells .entry)) (startCell columns «start_row» «start_column» (now (cells .entry))) r (now (picture .exit))) ⌝ }
+        → cellOf (now (cells .entry)) (startCell columns «start_row» «start_column») ≢ 255
+        → MeetsDemand3 (neighbours edgeless rows columns) (now (cells .entry)) (startCell columns «start_row» «start_column») r (now (picture .exit))) ⌝ }
 {
     let lent = [picture.len()];
     match test_board(
@@ -143,7 +143,7 @@ pub fn is_solvable(
     ) {
         Tested::Refused(refusal) => Verdict::Refused(refusal),
         Tested::Accepted => {
-            let start = start_cell(rows, columns, start_row, start_column, cells);
+            let start = start_cell(rows, columns, start_row, start_column);
             judge(edgeless, rows, columns, cells, start, picture)
         }
     }

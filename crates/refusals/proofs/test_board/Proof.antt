@@ -56,14 +56,15 @@ after-cells c told =
     (c .before .if1 .came) in
     sym (tested-append cells rest (sym (c .test-cells .ensures) ∙ told)) ∙ whole
 
+start-ok-requires : tie.Need-start-ok-requires
+start-ok-requires c κs = search needs
+
 numbers-ok-requires : tie.Need-numbers-ok-requires
 numbers-ok-requires c κs =
-    let tests = c .before .before in
+    let told = c .before in
+    let tests = told .before .before in
     let a = tests .before .before .before .before .before .args in
-    accepted-cells 1 _ _ _ (all (cellIn 255 255) (a .cells .now)) (sym (tests .test-cells .ensures) ∙ c .enum-told .given .1)
-
-zero-ok-requires : tie.Need-zero-ok-requires
-zero-ok-requires c κs = search needs
+    accepted-cells 1 _ _ _ (all (cellIn 255 255) (a .cells .now)) (sym (tests .test-cells .ensures) ∙ told .enum-told .given .1)
 
 first-refusal-requires : tie.Need-first-refusal-requires
 first-refusal-requires c κs = search needs
@@ -71,27 +72,20 @@ first-refusal-requires c κs = search needs
 first-refusal-requires-2 : tie.Need-first-refusal-requires-2
 first-refusal-requires-2 c κs = search needs
 
-start-ok-requires : tie.Need-start-ok-requires
-start-ok-requires c κs = search needs
-
-first-refusal-requires-3 : tie.Need-first-refusal-requires-3
-first-refusal-requires-3 c κs = search needs
-
 returns-2 : tie.Need-returns-2
 returns-2 c = let told = c .before in after-cells (told .before .before) (told .refusal .given .1)
 
 returns-3 : tie.Need-returns-3
 returns-3 c =
-    let start = c .before in
-    let last = start .before .before in
-    let told = last .before .before .before in
+    let later = c .before in
+    let numbers = later .before in
+    let start = numbers .before in
+    let told = start .before in
     rw (
-      c .first-refusal3 .ensures,
-      start .before .first-refusal2 .ensures,
-      last .first-refusal .ensures,
+      c .first-refusal2 .ensures,
+      later .first-refusal .ensures,
       start .start-ok .ensures,
-      last .before .before .numbers-ok .ensures,
-      last .before .zero-ok .ensures,
+      numbers .numbers-ok .ensures,
     )
     (after-cells (told .before .before) (told .enum-told .given .1))
 
@@ -105,11 +99,9 @@ test-board-spec =
     test-cells-requires
     enum-known-refusal
     enum-told
+    start-ok-requires
     numbers-ok-requires
-    zero-ok-requires
     first-refusal-requires
     first-refusal-requires-2
-    start-ok-requires
-    first-refusal-requires-3
     returns-2
     returns-3)
