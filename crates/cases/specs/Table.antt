@@ -182,6 +182,15 @@ table =
     -- judged no, after subtraction and after enumeration: 4
     ∷ judged 3 3 0 0 (0 ∷ 1 ∷ 1 ∷ 2 ∷ 4 ∷ 255 ∷ 255 ∷ 255 ∷ 255 ∷ []) false 4 4 2 (0 ∷ 1 ∷ 10 ∷ 2 ∷ 4 ∷ 10 ∷ 10 ∷ 10 ∷ 10 ∷ [])
     ∷ judged 3 3 0 0 (0 ∷ 1 ∷ 1 ∷ 1 ∷ 3 ∷ 255 ∷ 1 ∷ 255 ∷ 255 ∷ []) false 4 4 1 (0 ∷ 1 ∷ 10 ∷ 1 ∷ 3 ∷ 10 ∷ 10 ∷ 10 ∷ 10 ∷ [])
+    -- Paper 7: a start of 255,255 is off the board, with a 0 and without one; 1 and 3 come before it, 5 behind it
+    ∷ unjudged 1 3 255 255 (255 ∷ 1 ∷ 0 ∷ []) 4
+    ∷ unjudged 1 3 255 255 (1 ∷ 255 ∷ 1 ∷ []) 4
+    ∷ unjudged 1 3 255 255 (1 ∷ 255 ∷ 0 ∷ []) 4
+    ∷ unjudged 1 3 255 255 (9 ∷ 255 ∷ 0 ∷ []) 3
+    ∷ unjudged 0 1 255 255 [] 1
+    -- a start in the row or the column past the last
+    ∷ unjudged 1 3 1 0 (255 ∷ 1 ∷ 0 ∷ []) 4
+    ∷ unjudged 1 3 0 3 (255 ∷ 1 ∷ 0 ∷ []) 4
     -- 11. 32 rows accepted, 33 refusal 1
     ∷ board-tested 32 1 0 0 (replicate 32 0) 0
     ∷ board-tested 33 1 0 0 (replicate 33 0) 1
