@@ -52,17 +52,14 @@ fn judged(head: &[i64], cells: &[i64]) -> Result<Verdict, usize> {
     if cells.iter().any(|&c| !(0..=8).contains(&c) && c != 255) {
         return Err(3);
     }
-    let first_zero = row == 255 && column == 255;
-    let on_board = (0..rows).contains(&row) && (0..columns).contains(&column);
-    if !on_board && !first_zero {
+    if !(0..rows).contains(&row) || !(0..columns).contains(&column) {
         return Err(4);
     }
     let board = grid(rows as usize, columns as usize, &cells.iter().map(|&c| c as u8).collect::<Vec<_>>());
     if !numbers_right(&board) {
         return Err(5);
     }
-    let start = if first_zero { cells.iter().position(|&c| c == 0).ok_or(7usize)? } else { (row * columns + column) as usize };
-    Ok(verdict(&board, (start / columns as usize, start % columns as usize)))
+    Ok(verdict(&board, (row as usize, column as usize)))
 }
 
 /// What is answered to these numbers: `refused N`, or yes or no and what else is told of the verdict.

@@ -1,10 +1,10 @@
 """Random boards with a start for comparisons, from a seed, as records (SPECIFICATION 5.1) and as lines of numbers: sizes from 1 x 1 to 32 x 32, all densities,
-starts on safe cells, zeros and mines and the open start 255,255; boards with faults, one or several; every board of a size; and damaged streams of records."""
+starts on safe cells, zeros and mines and the retired start 255,255, which is refused; boards with faults, one or several; every board of a size; and damaged streams of records."""
 import itertools
 
 import positions
 
-OPEN = (255, 255)
+OPEN = (255, 255)  # the retired start: it meant the first 0 in reading order, and is off every board
 
 
 def size(r, least):
@@ -38,12 +38,12 @@ def started(r, rows, columns, cells):
         'start at a zero': [c for c, value in enumerate(cells) if value == 0],
         'start on a safe cell': [c for c, value in enumerate(cells) if value != 255],
         'start on a mine': [c for c, value in enumerate(cells) if value == 255],
-        'open start': [],
+        'retired start': [],
     }
     kind = r.choices(list(places), [5, 4, 1, 2])[0]
     if places[kind]:
         return kind, divmod(r.choice(places[kind]), columns)
-    return 'open start', OPEN
+    return 'retired start', OPEN
 
 
 def judged(r, least=1):
@@ -93,8 +93,8 @@ def wrong_number(r, head, cells):
     return head, cells
 
 
-def no_zero(r, head, cells):
-    """Mines in every second row at every second cell leave no 0."""
+def retired_start(r, head, cells):
+    """The retired start, on a board without a 0: mines in every second row at every second cell leave none."""
     rows, columns = head[:2]
     mines = [value == 255 or c // columns % 2 == 0 and c % columns % 2 == 0 for c, value in enumerate(cells)]
     return head[:2] + list(OPEN), positions.numbered(rows, columns, mines)
@@ -114,8 +114,8 @@ def start_past_a_byte(r, head, cells):
     return head[:2] + r.choice([[256, 0], [0, 256], [511, 511], [65535, 255]]), cells
 
 
-IN_RECORDS = [no_zero, wrong_number, wrong_start, wrong_cell, wrong_size, largest_size]
-IN_LINES = [no_zero, wrong_number, wrong_start, start_past_a_byte, wrong_cell, cell_past_a_byte, wrong_length, wrong_size]
+IN_RECORDS = [retired_start, wrong_number, wrong_start, wrong_cell, wrong_size, largest_size]
+IN_LINES = [retired_start, wrong_number, wrong_start, start_past_a_byte, wrong_cell, cell_past_a_byte, wrong_length, wrong_size]
 
 
 def faulty(r, faults):
