@@ -211,7 +211,7 @@ fn verdicts(random: &mut Random, rows: usize, columns: usize, mines: usize, coun
     }
 }
 
-/// The boards of a file of records, those started at a cell of theirs.
+/// The boards of a file of records, each with its start.
 fn records(path: &str) -> Vec<Board> {
     let input = std::fs::read(path).expect("the file of records can be read");
     let (mut all, mut at) = (vec![], 0);
@@ -219,9 +219,7 @@ fn records(path: &str) -> Vec<Board> {
         let (rows, columns) = (input[at + 2] as usize, input[at + 3] as usize);
         let bytes = input[at + 6..at + 6 + rows * columns].to_vec();
         let grid: Grid = bytes.chunks(columns).map(|row| row.iter().map(|&v| if v == 255 { -1 } else { v as i32 }).collect()).collect();
-        let zero = bytes.iter().position(|&v| v == 0).unwrap_or(0);
-        let open_start = input[at + 4] == 255 && input[at + 5] == 255;
-        let start = if open_start { (zero / columns, zero % columns) } else { (input[at + 4] as usize, input[at + 5] as usize) };
+        let start = (input[at + 4] as usize, input[at + 5] as usize);
         all.push(Board { rows, columns, start, grid, bytes });
         at += 6 + rows * columns;
     }

@@ -73,6 +73,7 @@ static void be_refused(void)
     uint8_t refusal = lihvompa_verdict(33, 1, 0, 0, cells, 33, picture, 33, counts, 4);
     printf("33 rows: refusal %d\n", refusal);
     expect(refusal == LIHVOMPA_SIZE, "33 rows are refused");
+    expect(lihvompa_verdict(1, 3, 255, 255, cells, 3, picture, 3, counts, 4) == LIHVOMPA_START, "a start of 255, 255 is off the board");
     expect(picture[0] == 7 && counts[0] == 7, "a refusal writes nothing");
 }
 

@@ -17,16 +17,15 @@
 extern "C" {
 #endif
 
-/* What a call answers. Where several refusals apply, the lowest is given. */
+/* What a call answers. Where several refusals apply, the lowest is given. No call answers 7, which belonged to a start that is retired. */
 enum lihvompa_refusal {
     LIHVOMPA_ACCEPTED = 0,
     LIHVOMPA_SIZE = 1,          /* rows or columns are 0 or above 32; of lihvompa_pattern also below 3 */
     LIHVOMPA_LENGTH = 2,        /* a cell or picture slice isn't rows * columns long, or a deduction's list is shorter than that */
     LIHVOMPA_CELL = 3,          /* a cell value isn't one named below */
-    LIHVOMPA_START = 4,         /* the start is off the board and isn't 255, 255 */
+    LIHVOMPA_START = 4,         /* the start is off the board */
     LIHVOMPA_NUMBER = 5,        /* a safe cell's number isn't its count of neighbouring mines */
     LIHVOMPA_CONTRADICTION = 6, /* a deduction meets a contradiction */
-    LIHVOMPA_NO_ZERO = 7,       /* the start is 255, 255 and no cell is 0 */
     LIHVOMPA_BLOCK = 8,         /* the block asked for isn't below the block count */
     LIHVOMPA_TABLE = 9          /* solutions * groups exceeds the lent table's length */
 };
@@ -39,9 +38,9 @@ enum lihvompa_cell {
     LIHVOMPA_MINE = 255
 };
 
-/* The verdict on a board from a start; a start of 255, 255 means the first 0 in reading order. `picture`, rows * columns long, becomes what is open in the
- * end: an open cell's number, else 10. Counts: 1 for yes or 0 for no; opened cells; grade, of a yes the strongest rule that found a cell (1 direct, 2
- * subtraction, 3 enumeration, 0 none), of a no 4; rounds, the passes that found a cell. Refusals 1, 2, 3, 4, 5, 7. */
+/* The verdict on a board from a start. `picture`, rows * columns long, becomes what is open in the end: an open cell's number, else 10. Counts: 1 for yes or 0
+ * for no; opened cells; grade, of a yes the strongest rule that found a cell (1 direct, 2 subtraction, 3 enumeration, 0 none), of a no 4; rounds, the passes
+ * that found a cell. Refusals 1 to 5. A start of 255, 255, which once meant the first 0 in reading order, is off every board. */
 uint8_t lihvompa_verdict(size_t rows, size_t columns, size_t start_row, size_t start_column, const uint8_t *cells, size_t cells_length,
                          uint8_t *picture, size_t picture_length, uint64_t *counts, size_t counts_length);
 

@@ -13,9 +13,6 @@
 
 use std::fmt;
 
-/// A start that means the first 0 in reading order.
-pub const FIRST_ZERO: (usize, usize) = (255, 255);
-
 /// Why a call answers nothing. Where several apply, the first of this list is given.
 #[derive(Clone, Copy, Debug, PartialEq, Eq, Hash)]
 #[repr(u8)]
@@ -26,14 +23,12 @@ pub enum Refusal {
     Length = 2,
     /// A cell value is not one of a board, or of a position.
     Cell = 3,
-    /// The start is off the board and is not [`FIRST_ZERO`].
+    /// The start is off the board.
     Start = 4,
     /// A safe cell's number is not its count of neighbouring mines.
     Number = 5,
     /// A deduction meets a contradiction.
     Contradiction = 6,
-    /// The start is [`FIRST_ZERO`] and no cell is 0.
-    NoZero = 7,
     /// The block asked for is not below the block count.
     Block = 8,
     /// The table has more bytes than it has room for.
@@ -49,7 +44,6 @@ impl fmt::Display for Refusal {
             Refusal::Start => "start",
             Refusal::Number => "number",
             Refusal::Contradiction => "contradiction",
-            Refusal::NoZero => "no zero",
             Refusal::Block => "block",
             Refusal::Table => "table",
         })
@@ -153,14 +147,14 @@ fn answered<const N: usize>(number: u8, counts: [u64; N]) -> Result<[usize; N], 
         4 => Refusal::Start,
         5 => Refusal::Number,
         6 => Refusal::Contradiction,
-        7 => Refusal::NoZero,
         8 => Refusal::Block,
         9 => Refusal::Table,
         _ => unreachable!("no call answers {number}"),
     })
 }
 
-/// The verdict on a board from a start. A start on a mine is judged no, with nothing opened.
+/// The verdict on a board from a start. A start on a mine is judged no, with nothing opened. A start of 255, 255, which once meant the first 0 in reading order,
+/// is off every board.
 pub fn verdict(rows: usize, columns: usize, start: (usize, usize), cells: &[u8]) -> Result<Verdict, Refusal> {
     let mut picture = vec![10; cells.len()];
     let mut counts = [0; 4];

@@ -1,5 +1,5 @@
 //! The small boards of SPECIFICATION 12, the record example (5.4) and the refusals (3.1), and boards worked out by hand, through the safe functions.
-use lihvompa::{direct, enumerate, frontier, minus, pattern, table, verdict, Deduction, Frontier, Refusal, FIRST_ZERO};
+use lihvompa::{direct, enumerate, frontier, minus, pattern, table, verdict, Deduction, Frontier, Refusal};
 
 fn found(safe: &[u16], mines: &[u16], position: &[u8]) -> Result<Deduction, Refusal> {
     Ok(Deduction { safe: safe.to_vec(), mines: mines.to_vec(), position: position.to_vec() })
@@ -109,7 +109,7 @@ fn boards_by_hand() {
     // the 0s of the last row open the second; there subtraction finds the rest, as in case 6
     let board = [1, 255, 1, 1, 1, 1, 0, 0, 0];
     assert_eq!(judged(3, 3, (2, 0), &board), (true, 8, 2, 1));
-    assert_eq!(judged(3, 3, FIRST_ZERO, &board), (true, 8, 2, 1));
+    assert_eq!(judged(3, 3, (2, 2), &board), (true, 8, 2, 1));
 }
 
 #[test]
@@ -125,9 +125,21 @@ fn each_refusal_of_a_board() {
     assert_eq!(verdict(1, 3, (0, 0), &[255, 1, 10]), Err(Refusal::Cell));
     assert_eq!(verdict(1, 3, (0, 3), &[255, 1, 0]), Err(Refusal::Start));
     assert_eq!(verdict(1, 3, (0, 0), &[255, 2, 0]), Err(Refusal::Number));
-    assert_eq!(verdict(1, 3, FIRST_ZERO, &[1, 255, 1]), Err(Refusal::NoZero));
-    assert_eq!(judged(1, 3, FIRST_ZERO, &[255, 1, 0]), (true, 2, 0, 0));
     assert_eq!(verdict(usize::MAX, usize::MAX, (0, 0), &[0]), Err(Refusal::Size));
+}
+
+#[test]
+fn the_retired_start_is_off_every_board() {
+    // it meant the first 0, which one of these boards has and the other has not
+    assert_eq!(verdict(1, 3, (255, 255), &[255, 1, 0]), Err(Refusal::Start));
+    assert_eq!(verdict(1, 3, (255, 255), &[1, 255, 1]), Err(Refusal::Start));
+    // the first 0 written in its place is judged
+    assert_eq!(judged(1, 3, (0, 2), &[255, 1, 0]), (true, 2, 0, 0));
+    // size, length and cells are tested before it, numbers behind it
+    assert_eq!(verdict(33, 1, (255, 255), &[0; 33]), Err(Refusal::Size));
+    assert_eq!(verdict(1, 3, (255, 255), &[255, 1]), Err(Refusal::Length));
+    assert_eq!(verdict(1, 3, (255, 255), &[10, 1, 0]), Err(Refusal::Cell));
+    assert_eq!(verdict(1, 3, (255, 255), &[255, 2, 0]), Err(Refusal::Start));
 }
 
 #[test]
