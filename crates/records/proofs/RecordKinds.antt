@@ -152,6 +152,19 @@ module _ (input rest : List ℕ) where
   same-mark : 2 ≤ length input → markOf (input ++ rest) ≡ markOf input
   same-mark h = rw (at 0 (omega (arith, h)), at 1 (omega (arith, h)))
 
+  -- a record whose head is there has the same length
+  pub length-beside : 6 ≤ length input → recordLength (input ++ rest) ≡ recordLength input
+  length-beside six =
+      sym (length-known (input ++ rest) (omega (arith, longer)))
+      ∙ rw (at 2 (omega arith), at 3 (omega arith)) (length-known input six)
+
+  -- and one that stands inside the same cells
+  pub cells-beside : recordLength input ≤ length input → cellsIn (input ++ rest) ≡ cellsIn input
+  cells-beside inside =
+      let six : 6 ≤ length input = omega (arith, six-or-more input) in
+      rw (length-beside six, drop-append-le 6 input rest six)
+      (take-append-le (recordLength input - 6) (drop 6 input) rest (omega (arith, length-drop 6 input)))
+
   -- a whole record
   pub whole-beside : (mark : BoardMark) (rows columns row column : ℕ) → recordOf input ≡ Whole mark rows columns row column → Beside input (input ++ rest)
   whole-beside mark rows columns row column is = record {
@@ -159,9 +172,7 @@ module _ (input rest : List ℕ) where
     same-record =
         sym (record-whole (input ++ rest) (omega (arith, six, longer)) (rw same (known .0)) (omega (arith, same-length, known .1, longer)))
         ∙ rw (same, at 2 (omega (arith, six)), at 3 (omega (arith, six)), at 4 (omega (arith, six)), at 5 (omega (arith, six))) (record-whole input (omega (arith, six)) (known .0) (known .1));
-    same-cells =
-        rw (same-length, drop-append-le 6 input rest six)
-        (take-append-le (recordLength input - 6) (drop 6 input) rest (omega (arith, length-drop 6 input, known .1)));
+    same-cells = cells-beside (known .1);
   }
     where
       known : (knownMark (markOf input) ≡ true) × (recordLength input ≤ length input)
@@ -174,9 +185,7 @@ module _ (input rest : List ℕ) where
       same = same-mark (omega (arith, six))
 
       same-length : recordLength (input ++ rest) ≡ recordLength input
-      same-length =
-          sym (length-known (input ++ rest) (omega (arith, six, longer)))
-          ∙ rw (at 2 (omega (arith, six)), at 3 (omega (arith, six))) (length-known input six)
+      same-length = length-beside six
 
   -- an unknown mark
   pub mark-beside : recordOf input ≡ Damaged Mark → recordOf (input ++ rest) ≡ Damaged Mark

@@ -282,7 +282,7 @@ pub fn new_run() -> Run
 }
 
 // A sum, or the largest number where it is larger.
-fn capped_sum(a: usize, b: usize) -> usize
+pub fn capped_sum(a: usize, b: usize) -> usize
     ensures { λ r. ⌜ r ≡ cappedSum a b ⌝ }
 {
     if b <= 0xffff_ffff_ffff_ffff - a {
