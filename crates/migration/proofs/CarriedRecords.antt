@@ -2,7 +2,7 @@
 -- record with anything behind it. Assumes nothing.
 use mathlib.Core.Path.{_≡_, refl, sym, ap, _∙_}
 use mathlib.Core.Bool.{Bool, true, false}
-use mathlib.Core.List.{List, [], _++_, append-assoc}
+use mathlib.Core.List.{List, _++_, append-assoc}
 use Prim.Native.Nat.{ℕ, _+_, _-_, _≤_, _<_}
 use native.Mathlib.Nat.{add-assoc, add-zero, zero-add}
 use native.Mathlib.Omega.{arith}
@@ -17,7 +17,7 @@ use Rattle.migration.specs.Parts.{noCounts, countsSum, countsOf, counts}
 use Rattle.migration.specs.Steps.{Carried}
 use Rattle.migration.proofs.Fronts.{stored-whole, front-long, front-length}
 use Rattle.migration.proofs.MigratedRecords.{record-length-kept, record-beside}
-use Rattle.migration.proofs.Walks.{behind, migrated-step, counts-step}
+use Rattle.migration.proofs.Walks.{migrated-step, counts-step}
 
 -- ---- sums of counts
 

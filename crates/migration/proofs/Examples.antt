@@ -1,7 +1,6 @@
 -- Small inputs, carried over by computing the definition. Assumes nothing.
 use mathlib.Core.Path.{_≡_, refl}
-use mathlib.Core.List.{List, [], _∷_}
-use Prim.Native.Nat.{ℕ}
+use mathlib.Core.List.{[], _∷_}
 use Rattle.records.specs.Records.{recordLength}
 use Rattle.migration.specs.Migrated.{isStored, isChanged, migratedRecord, migrated}
 

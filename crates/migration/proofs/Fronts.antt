@@ -9,8 +9,8 @@ use native.Mathlib.Omega.{arith}
 use lib.Dec.{leb, eqb}
 use lib.ListN.{length, getD, take, drop, length-append, take-append-drop, List·getD-append}
 use lib.Seq.{length-take-le}
-use borrow.Author.Tests.{leb-true, leb-false, le-leb, lt-leb, eqb-true, eqb-false, ne-eqb}
-use Rattle.lists.proofs.Tests.{Decided, decided, clash, and-left, and-right, or-false-left, or-false-right}
+use borrow.Author.Tests.{leb-true, le-leb, ne-eqb}
+use Rattle.lists.proofs.Tests.{Decided, decided, clash, and-left, and-right}
 use Rattle.records.specs.Records.{recordLength}
 use Rattle.records.proofs.RecordKinds.{six-or-more, length-unknown, length-beside}
 use Rattle.migration.specs.Migrated.{isStored}

@@ -1,14 +1,14 @@
 -- Where a byte of the input changes: at place 4 or 5 of a whole record with the retired start and a 0, and nowhere else; so that a byte that is not 255 stays. By going through the records.
 -- Assumes nothing.
-use mathlib.Core.Path.{_≡_, refl, sym, ap, _∙_}
+use mathlib.Core.Path.{_≡_, sym, ap, _∙_}
 use mathlib.Core.Logic.{_⊎_, inl, inr, _≢_}
-use mathlib.Core.Bool.{true, false}
+use mathlib.Core.Bool.{true}
 use mathlib.Core.List.{List, _++_}
 use Prim.Native.Nat.{ℕ, _+_, _-_, _<_}
 use native.Mathlib.Decide.{decLt}
 use native.Mathlib.Omega.{arith}
 use lib.Dec.{eqb}
-use lib.ListN.{length, getD, take, drop, take-append-drop, List·getD-append}
+use lib.ListN.{getD, take, drop, take-append-drop, List·getD-append}
 use lib.Seq.{getD-append-add, getD-take, getD-drop, drop-drop}
 use borrow.Author.Tests.{eqb-true, eqb-false}
 use Rattle.lists.proofs.Tests.{Decided, decided}

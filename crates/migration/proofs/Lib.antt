@@ -8,3 +8,4 @@ pub mod CarriedRecords
 pub mod MigratedParts
 pub mod CutAnywhere
 pub mod Examples
+pub mod JudgedAsStored

@@ -1,27 +1,25 @@
 -- What a part of the input becomes: all is copied, or the records at its front are carried over and the rest waits for more bytes, or is copied because no whole record can begin there. Each way is
 -- a law. Rests on the records carried over. Assumes nothing.
 use mathlib.Core.Path.{_≡_, refl, sym, ap, _∙_}
-use mathlib.Core.Logic.{_⊎_, inl, inr}
-use mathlib.Core.Bool.{Bool, true, false, not, cond, _&&_}
+use mathlib.Core.Logic.{inl, inr}
+use mathlib.Core.Bool.{Bool, true, false, not, _&&_}
 use mathlib.Core.List.{List, [], _++_, append-assoc, append-nil}
-use Prim.Native.Nat.{ℕ, zero, suc, _≤_, _<_}
+use Prim.Native.Nat.{ℕ, zero, suc, _<_}
 use native.Mathlib.Omega.{arith}
 use lib.Dec.{ltb}
 use lib.ListN.{length, getD, take, drop, take-append-drop, drop-of-length-le}
-use lib.Seq.{take-all, take-length, drop-length}
+use lib.Seq.{take-length, drop-length}
 use borrow.Author.Tests.{ltb-true, ltb-false}
 use Rattle.lists.proofs.Tests.{Decided, decided, clash, and-left, and-right}
-use Rattle.records.specs.Records.{recordLength}
 use Rattle.records.proofs.RecordKinds.{length-most}
 use Rattle.run.specs.Parts.{Follows}
 use Rattle.migration.specs.declared.Counts.{Counts}
 use Rattle.migration.specs.declared.Part.{Part}
-use Rattle.migration.specs.Migrated.{isStored, migrated}
+use Rattle.migration.specs.Migrated.{isStored}
 use Rattle.migration.specs.Parts.{noCounts, countsSum, counts, migratedFrom, countsFrom, Migrates, Progress}
 use Rattle.migration.specs.Steps.{mayBegin, Carried}
-use Rattle.migration.proofs.Fronts.{no-head, begin-none, begins-stored, never-begins}
+use Rattle.migration.proofs.Fronts.{no-head, begins-stored, never-begins}
 use Rattle.migration.proofs.Walks.{migrated-copied, counts-none}
-use Rattle.migration.proofs.CarriedRecords.{counts-left, counts-right}
 
 -- nothing becomes nothing
 pub nothing-migrated : (copying : Bool) → migratedFrom copying [] ≡ []

@@ -1,22 +1,21 @@
 -- What becomes of a record: where it changes, the two bytes of its start become the row and the column of the first 0, which lies on the board (`start-on-board`, `start-is-first-zero`); no
 -- other byte changes (`others-kept`), and a second time changes nothing (`record-once`). What follows the record stays. Assumes nothing.
-use mathlib.Core.Path.{_≡_, refl, sym, ap, _∙_}
+use mathlib.Core.Path.{_≡_, sym, ap, _∙_}
 use mathlib.Core.Logic.{inl, inr, _≢_}
-use mathlib.Core.Bool.{Bool, true, false, cond, _&&_}
+use mathlib.Core.Bool.{true, false, and-false}
 use mathlib.Core.List.{List, _++_}
 use Prim.Native.Nat.{ℕ, _+_, _-_, _*_, _/_, _%_, _≤_, _<_, min}
 use native.Mathlib.Omega.{arith}
 use native.Mathlib.Decide.{decLt}
 use native.Mathlib.Nat.{div-add-mod', div-lt-iff-lt-mul, mod-lt, mul-zero}
 use lib.Dec.{ltb, eqb}
-use lib.ListN.{length, getD, take, drop, set, length-set, length-take, length-drop, List·getD-append}
+use lib.ListN.{length, getD, drop, set, length-set, length-take, length-drop, List·getD-append}
 use lib.Seq.{length-take-le, getD-set-same, getD-set-other, set-append-left, set-set, set-comm, drop-set-lt}
 use borrow.Author.Tests.{eqb-true, eqb-false, ne-eqb, lt-ltb, le-ltb}
-use Rattle.lists.specs.Lists.{bit}
 use Rattle.lists.proofs.Tests.{Decided, decided, and-left, and-right}
 use Rattle.lists.proofs.FirstPlaces.{first-within, first-within-any, first-passes, first-before}
 use Rattle.records.specs.Records.{recordLength, cellsIn}
-use Rattle.records.proofs.RecordKinds.{six-or-more, length-known, length-unknown, length-beside, cells-beside}
+use Rattle.records.proofs.RecordKinds.{six-or-more, length-known, length-beside, cells-beside}
 use Rattle.migration.specs.Migrated.{isStored, isOpen, hasZero, firstZero, isChanged, startedAt, migratedRecord}
 use Rattle.migration.specs.Parts.{countsOf}
 
@@ -47,7 +46,7 @@ module _ (r : List ℕ) where
   unfolding migratedRecord
   unchanged-is h = rw h
 
-  changed-open : isChanged r ≡ true → isOpen (getD r 4 0) (getD r 5 0) ≡ true
+  pub changed-open : isChanged r ≡ true → isOpen (getD r 4 0) (getD r 5 0) ≡ true
   unfolding isChanged
   changed-open h = and-left (isOpen (getD r 4 0) (getD r 5 0)) (hasZero (cellsIn r)) h
 
@@ -66,6 +65,14 @@ module _ (r : List ℕ) where
   pub other-start : isOpen (getD r 4 0) (getD r 5 0) ≡ false → isChanged r ≡ false
   unfolding isChanged
   other-start h = rw h
+
+  pub no-zero-stays : hasZero (cellsIn r) ≡ false → isChanged r ≡ false
+  unfolding isChanged
+  no-zero-stays h = rw h (and-false (isOpen (getD r 4 0) (getD r 5 0)))
+
+  pub retired-changes : isOpen (getD r 4 0) (getD r 5 0) ≡ true → hasZero (cellsIn r) ≡ true → isChanged r ≡ true
+  unfolding isChanged
+  retired-changes o z = rw (o, z)
 
   -- the search for a 0 ends among the cells
   module _ (inside : recordLength r ≤ length r) (start : isOpen (getD r 4 0) (getD r 5 0) ≡ true) where

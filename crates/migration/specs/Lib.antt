@@ -2,3 +2,4 @@
 pub mod Migrated
 pub mod Parts
 pub mod Steps
+pub mod Stored

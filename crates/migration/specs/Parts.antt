@@ -1,10 +1,9 @@
 -- What a part of the input becomes, wherever the input is cut: what goes out and what becomes of the rest are together what becomes of the whole, whatever follows the part. And the
 -- counts that the summary tells. Assumes nothing.
 use mathlib.Core.Path.{_≡_}
-use mathlib.Core.Bool.{Bool, true, false, cond, _&&_}
-use mathlib.Core.List.{List, [], _∷_, _++_}
+use mathlib.Core.Bool.{Bool, true, false, cond}
+use mathlib.Core.List.{List, _++_}
 use Prim.Native.Nat.{ℕ, zero, suc, _+_, _≤_, _<_}
-use lib.Dec.{eqb}
 use lib.ListN.{length, take, drop}
 use Rattle.lists.specs.Lists.{bit}
 use Rattle.records.specs.Records.{recordLength}

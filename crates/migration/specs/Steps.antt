@@ -1,9 +1,9 @@
 -- Cited by no public contract. Whole records at the front of the input carried over one after another, and whether more bytes may make a whole record of what is left. Assumes nothing.
 use mathlib.Core.Path.{_≡_}
-use mathlib.Core.Bool.{Bool, cond, _&&_, _||_}
+use mathlib.Core.Bool.{Bool, _&&_, _||_}
 use mathlib.Core.List.{List, _++_}
 use Prim.Native.Nat.{ℕ, _≤_}
-use lib.Dec.{leb, eqb}
+use lib.Dec.{eqb}
 use lib.ListN.{length, getD, take, drop}
 use Rattle.migration.specs.declared.Counts.{Counts}
 use Rattle.migration.specs.Migrated.{migrated}

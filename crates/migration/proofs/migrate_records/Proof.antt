@@ -1,10 +1,8 @@
 -- `migrate_records` meets its contract: the loop's invariant is that the records counted are carried over, and the measure is what is left of the input. Assumes nothing.
-use mathlib.Core.Path.{_≡_, sym, _∙_}
-use mathlib.Core.Bool.{true}
+use mathlib.Core.Path.{sym, _∙_}
 use Prim.Native.Nat.{_-_}
 use native.Mathlib.Omega.{arith}
-use lib.ListN.{length, drop}
-use Rattle.migration.specs.Migrated.{isStored}
+use lib.ListN.{length}
 use Rattle.migration.specs.Steps.{Carried}
 use Rattle.migration.proofs.CarriedRecords.{carried-none, carried-next, carried-further, sum-few}
 use borrow.Author.Needs.{needs}

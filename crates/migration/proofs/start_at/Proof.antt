@@ -1,5 +1,4 @@
 -- `start_at` meets its contract: a cell on the board has columns to be divided by, and a row and a column that are bytes. Assumes nothing.
-use mathlib.Core.Path.{_≡_, refl}
 use Prim.Native.Nat.{_*_, _<_}
 use native.Mathlib.Omega.{arith}
 use lib.ListN.{getD}
