@@ -31,15 +31,21 @@ def printed(run, seconds):
     return b''.join(parts), True
 
 
-def lines(command, data, seconds):
-    """The whole lines that a program prints to these bytes, and how it ended: '', SILENT or FAILED."""
+def output(command, data, seconds):
+    """All bytes that a program prints to these bytes, and how it ended: '', SILENT or FAILED."""
     with tempfile.TemporaryFile() as file:
         file.write(data)
         file.seek(0)
         run = subprocess.Popen(command, stdin=file, stdout=subprocess.PIPE, stderr=subprocess.DEVNULL, preexec_fn=limit_memory)
         with run:
-            text, silent = printed(run, seconds)
-    return text.decode().split('\n')[:-1], SILENT if silent else FAILED if run.returncode else ''
+            found, silent = printed(run, seconds)
+    return found, SILENT if silent else FAILED if run.returncode else ''
+
+
+def lines(command, data, seconds):
+    """The whole lines that a program prints to these bytes, and how it ended."""
+    found, end = output(command, data, seconds)
+    return found.decode().split('\n')[:-1], end
 
 
 def answers(command, questions, seconds, read=lambda found: found):

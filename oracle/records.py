@@ -1,5 +1,5 @@
 """Random boards with a start for comparisons, from a seed, as records (SPECIFICATION 5.1) and as lines of numbers: sizes from 1 x 1 to 32 x 32, all densities,
-starts on safe cells, zeros and mines and the retired start 255,255, which is refused; boards with faults, one or several; every board of a size; and damaged streams of records."""
+starts on safe cells, zeros and mines and the retired start 255,255, which is refused; boards with faults, one or several; every board of a size; damaged streams of records; and streams of stored records."""
 import itertools
 
 import positions
@@ -148,18 +148,16 @@ def every(rows, columns):
 
 # ---- damaged streams ----
 
-def cuts():
+def cuts(start=(0, 0)):
     """A record cut at each of its bytes, alone and behind a whole one; the empty input and one lone byte are among them."""
-    whole = record([3, 4, 0, 0], [0, 1, 2, 2, 1, 2, 255, 255, 1, 255, 4, 255])
+    whole = record([3, 4, *start], [0, 1, 2, 2, 1, 2, 255, 255, 1, 255, 4, 255])
     for end in range(len(whole) + 1):
         yield 'cut alone', whole[:end]
         yield 'cut behind another', whole + whole[:end]
 
 
-def damaged(r):
-    """Some records, at the end of which the stream is cut, or stands an unknown mark, a lone byte, or a large record without its cells; and its kind."""
-    whole = [record(*faulty(r, IN_RECORDS)[1:]) if r.random() < 0.2 else record(*judged(r)[1:]) for _ in range(r.randint(0, 3))]
-    last = record(*judged(r)[1:])
+def damaged_end(r, last):
+    """What is left of a last record where the stream is cut, or stands an unknown mark, a lone byte, or a large record without its cells; and its kind."""
     kind = r.choice(['cut in the head', 'cut in the cells', 'unknown mark', 'lone byte', 'large size without its cells'])
     if kind == 'cut in the head':
         end = last[:r.randint(2, 5)]
@@ -171,4 +169,75 @@ def damaged(r):
         end = bytes([r.choice([77, 66, 0, 255, r.randrange(256)])])
     else:
         end = b'MB' + bytes(r.choice([[33, 33], [255, 255], [1, 33], [200, 32]])) + last[4:10]
+    return kind, end
+
+
+def damaged(r):
+    """Some records with a damaged end, and its kind."""
+    whole = [record(*faulty(r, IN_RECORDS)[1:]) if r.random() < 0.2 else record(*judged(r)[1:]) for _ in range(r.randint(0, 3))]
+    kind, end = damaged_end(r, record(*judged(r)[1:]))
     return kind, b''.join(whole) + end
+
+
+# ---- streams of stored records ----
+
+def filled(r, rows, columns):
+    """Cells without a 0 but for a few, so that the first may stand anywhere, or nowhere."""
+    cells = r.choices([1, 8, 9, 66, 77, 254, 255], k=rows * columns)
+    for _ in range(r.choice([0, 1, 1, 1, 2, 5]) if cells else 0):
+        cells[r.randrange(len(cells))] = 0
+    return cells
+
+
+def any_size(r):
+    """A record of any size, mostly a small one, with any cells and a start that is on the board or off it."""
+    rows, columns = r.choices([(r.randint(0, 9), r.randint(0, 9)), (r.randint(0, 3), r.randrange(256)), (r.randrange(256), r.randint(0, 3)), (r.randint(0, 60), r.randint(0, 60))], [6, 1, 1, 1])[0]
+    start = r.choice([(255, 0), (0, 255), (255, 254), (254, 255), (0, 0), (r.randrange(256), r.randrange(256))])
+    return [rows, columns, *start], filled(r, rows, columns)
+
+
+def stored_record(r):
+    """A whole record as it may be stored, mostly with the retired start: a board, one with faults, or any size and cells."""
+    k = r.random()
+    head, cells = judged(r)[1:] if k < 0.3 else faulty(r, IN_RECORDS[:-1])[1:] if k < 0.4 else any_size(r)
+    return record(head[:2] + list(OPEN) if r.random() < 0.6 else head, cells)
+
+
+def stored_records(r, most):
+    return b''.join(stored_record(r) for _ in range(r.randint(0, most)))
+
+
+def unknown_between(r):
+    """Records, then one with an unknown mark, then records again; the marks that the judge is to learn are among the unknown ones."""
+    mark = r.choice([b'MC', b'MT', b'NB', b'BM', b'mb', b'\0\0', b'M\0', bytes([77, r.choice([65, 67, 255])]), bytes([r.randrange(77), 66])])
+    return stored_records(r, 3) + mark + stored_record(r)[2:] + stored_record(r) + stored_records(r, 2)
+
+
+def long_record(r):
+    rows, columns = r.randint(240, 255), r.randint(240, 255)
+    return record([rows, columns, *r.choice([OPEN, (255, 0)])], filled(r, rows, columns))
+
+
+def past_one_read(r):
+    """Small records around one or two long ones, past the 65,536 bytes that one read gives at most, or past twice as many."""
+    reads = r.choice([1, 1, 1, 2])
+    stream = stored_records(r, 2) + b''.join(long_record(r) for _ in range(reads))
+    while len(stream) <= 65536 * reads:
+        stream += stored_record(r)
+    return stream + stored_records(r, 3)
+
+
+def stored(r):
+    """A stream of stored records, and its kind."""
+    k = r.random()
+    if k < 0.30:
+        return 'whole', stored_records(r, 4)
+    if k < 0.55:
+        return 'unknown mark between', unknown_between(r)
+    if k < 0.56:
+        return 'past one read', past_one_read(r)
+    if k < 0.57:
+        return 'unknown mark past one read', past_one_read(r) + unknown_between(r)
+    _, head, cells = judged(r)
+    kind, end = damaged_end(r, record(head[:2] + list(OPEN), cells))
+    return kind, stored_records(r, 3) + end
