@@ -1,5 +1,6 @@
 """Random boards with a start for comparisons, from a seed, as records (SPECIFICATION 5.1) and as lines of numbers: sizes from 1 x 1 to 32 x 32, all densities,
-starts on safe cells, zeros and mines and the retired start 255,255, which is refused; boards with faults, one or several; every board of a size; damaged streams of records; and streams of stored records."""
+starts on safe cells, zeros and mines and the retired start 255,255, which is refused; boards with faults, one or several; every board of a size; damaged streams
+of records; and streams of stored records."""
 import itertools
 
 import positions
@@ -191,7 +192,8 @@ def filled(r, rows, columns):
 
 def any_size(r):
     """A record of any size, mostly a small one, with any cells and a start that is on the board or off it."""
-    rows, columns = r.choices([(r.randint(0, 9), r.randint(0, 9)), (r.randint(0, 3), r.randrange(256)), (r.randrange(256), r.randint(0, 3)), (r.randint(0, 60), r.randint(0, 60))], [6, 1, 1, 1])[0]
+    most = r.choices([(9, 9), (3, 255), (255, 3), (60, 60)], [6, 1, 1, 1])[0]
+    rows, columns = r.randint(0, most[0]), r.randint(0, most[1])
     start = r.choice([(255, 0), (0, 255), (255, 254), (254, 255), (0, 0), (r.randrange(256), r.randrange(256))])
     return [rows, columns, *start], filled(r, rows, columns)
 
