@@ -74,8 +74,10 @@ fn start_at(stored: &mut [u8], cell: usize)
     ensures { λ _. ⌜ now (stored .exit) ≡ startedAt (now (stored .entry)) cell ⌝ }
 {
     let columns = wide_byte(stored[3]);
-    stored[4] = (cell / columns) as u8;
-    stored[5] = (cell % columns) as u8;
+    let row = (cell / columns) as u8;
+    let column = (cell % columns) as u8;
+    stored[4] = row;
+    stored[5] = column;
 }
 
 // Writes the start that was meant into the whole record at the front. Other bytes may stand behind it, and stay.

@@ -1,13 +1,14 @@
 -- `is_mark` meets its contract: its tests are those of the definition. Assumes nothing.
+use mathlib.Core.Path.{refl}
 use borrow.Author.Tests.{eq-eqb, ne-eqb}
 use Rattle.migration.proofs.is_mark.Statement.{statement}
 use Rattle.migration.proofs.is_mark.Tie as tie
 
 returns : tie.Need-returns
-returns c = rw (eq-eqb _ 77 (c .if1 .taken))
+returns c = rw (eq-eqb _ 77 (c .if1 .taken)) refl
 
 returns-2 : tie.Need-returns-2
-returns-2 c = rw (ne-eqb _ 77 (c .if1 .left))
+returns-2 c = rw (ne-eqb _ 77 (c .if1 .left)) refl
 
 pub is-mark-spec : {M : Type 1} → statement M
 is-mark-spec = tie.close (tie.spec returns returns-2)

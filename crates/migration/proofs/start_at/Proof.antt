@@ -1,4 +1,5 @@
 -- `start_at` meets its contract: a cell on the board has columns to be divided by, and a row and a column that are bytes. Assumes nothing.
+use mathlib.Core.Path.{refl}
 use Prim.Native.Nat.{_*_, _<_}
 use native.Mathlib.Omega.{arith}
 use lib.ListN.{getD}
@@ -18,20 +19,20 @@ slice-read-wide-byte c = search needs
 wide-byte-requires : tie.Need-wide-byte-requires
 wide-byte-requires c κs = search needs
 
-div-stored : tie.Need-div-stored
-div-stored c = omega (arith, some-columns _ _ _ (on-board c))
+div-row : tie.Need-div-row
+div-row c = omega (arith, some-columns _ _ _ (on-board c))
 
-cast-stored : tie.Need-cast-stored
-cast-stored c = omega (arith, row-below _ _ _ (on-board c), c .before .before .slice-known .given 2)
+cast-row : tie.Need-cast-row
+cast-row c = omega (arith, row-below _ _ _ (on-board c), c .before .before .slice-known .given 2)
+
+rem-column : tie.Need-rem-column
+rem-column c = omega (arith, some-columns _ _ _ (on-board c))
+
+cast-column : tie.Need-cast-column
+cast-column c = omega (arith, column-below _ _ _ (on-board c), c .wide-byte .ensures .1)
 
 slice-write-stored : tie.Need-slice-write-stored
 slice-write-stored c = search needs
-
-rem-stored : tie.Need-rem-stored
-rem-stored c = omega (arith, some-columns _ _ _ (on-board c))
-
-cast-stored-2 : tie.Need-cast-stored-2
-cast-stored-2 c = omega (arith, column-below _ _ _ (on-board c), c .wide-byte .ensures .1)
 
 slice-write-stored-2 : tie.Need-slice-write-stored-2
 slice-write-stored-2 c = search needs
@@ -40,7 +41,7 @@ same-length : tie.Need-same-length
 same-length c = search needs
 
 returns : tie.Need-returns
-returns c = rw (c .wide-byte .ensures .0)
+returns c = rw (c .wide-byte .ensures .0) refl
 
 pub start-at-spec : {M : Type 1} → statement M
 start-at-spec =
@@ -48,11 +49,11 @@ start-at-spec =
     (tie.spec
     slice-read-wide-byte
     wide-byte-requires
-    div-stored
-    cast-stored
+    div-row
+    cast-row
+    rem-column
+    cast-column
     slice-write-stored
-    rem-stored
-    cast-stored-2
     slice-write-stored-2
     same-length
     returns)
