@@ -35,6 +35,7 @@ unfolding migrated isStored isChanged migratedRecord recordLength
 short = refl
 
 -- an unknown mark, with a good record behind it
-unknown-mark : migrated (77 ∷ 67 ∷ 1 ∷ 1 ∷ 255 ∷ 255 ∷ 0 ∷ 77 ∷ 66 ∷ 1 ∷ 1 ∷ 255 ∷ 255 ∷ 0 ∷ []) ≡ 77 ∷ 67 ∷ 1 ∷ 1 ∷ 255 ∷ 255 ∷ 0 ∷ 77 ∷ 66 ∷ 1 ∷ 1 ∷ 255 ∷ 255 ∷ 0 ∷ []
+unknown-mark : migrated (77 ∷ 67 ∷ 1 ∷ 1 ∷ 255 ∷ 255 ∷ 0 ∷ 77 ∷ 66 ∷ 1 ∷ 1 ∷ 255 ∷ 255 ∷ 0 ∷ [])
+    ≡ 77 ∷ 67 ∷ 1 ∷ 1 ∷ 255 ∷ 255 ∷ 0 ∷ 77 ∷ 66 ∷ 1 ∷ 1 ∷ 255 ∷ 255 ∷ 0 ∷ []
 unfolding migrated isStored isChanged migratedRecord recordLength
 unknown-mark = refl
