@@ -116,7 +116,7 @@ fn judge(
     )
 }
 
-// is_solvable: refusals 1, 2, 3, 4, 5 and 7, then the verdict.
+// is_solvable: refusals 1 to 5, then the verdict.
 pub fn is_solvable(
     edgeless: bool,
     rows: usize,
