@@ -9,3 +9,4 @@ pub mod MigratedParts
 pub mod CutAnywhere
 pub mod Examples
 pub mod JudgedAsStored
+pub mod MigratedVerdicts

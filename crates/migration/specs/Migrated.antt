@@ -1,4 +1,4 @@
--- Stored records carried over (SPECIFICATION 5.5): a start of 255,255 meant the first 0 in reading order and is retired. Its two bytes become the row and the column of that 0, and no other
+-- Stored records carried over (SPECIFICATION 5.6, 5.7): a start of 255,255 meant the first 0 in reading order and is retired. Its two bytes become the row and the column of that 0, and no other
 -- byte changes. The mark 4D 42 is the only one known here, whatever marks the judge learns: no record with another mark ever had such a start. Assumes nothing.
 use mathlib.Core.Bool.{Bool, cond, _&&_}
 use mathlib.Core.List.{List, _++_}
