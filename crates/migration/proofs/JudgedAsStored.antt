@@ -2,20 +2,21 @@
 -- refused, it is refused still, and by 4 at the latest. Rests on the laws of the start that is written. Assumes nothing.
 use mathlib.Core.Path.{_≡_, refl, sym, ap, _∙_}
 use mathlib.Core.Logic.{_⊎_, inl, inr}
-use mathlib.Core.Bool.{Bool, true, false, not, cond, _&&_, _||_, or-false}
+use mathlib.Core.Bool.{Bool, true, false, not, cond, _||_, or-false}
 use mathlib.Core.List.{List, [], _∷_}
 use Prim.Native.Nat.{ℕ, _≤_, _<_}
 use native.Mathlib.Omega.{arith}
-use lib.Dec.{leb, eqb}
+use lib.Dec.{eqb}
 use lib.ListN.{length, getD, replicate, length-replicate}
-use borrow.Author.Tests.{leb-true, lt-ltb, le-ltb, eqb-true}
+use borrow.Author.Tests.{lt-ltb, eqb-true}
 use Rattle.lists.specs.Lists.{all}
-use Rattle.lists.proofs.Tests.{Decided, decided, clash, and-left, and-right, or-right}
+use Rattle.lists.proofs.Tests.{Decided, decided, clash, and-left, or-right}
 use Rattle.grid.specs.Cells.{cellOf}
 use Rattle.grid.specs.Window.{flat, neighbours}
 use Rattle.refusals.specs.declared.Refusal.the-variants.{Size, Length, Cell, Start, Number}
 use Rattle.refusals.specs.Refusals.{test, tested}
 use Rattle.refusals.specs.Tests.{sizeOk, lengthOk, boardCellsOk, startOk, numbersOk, startCell, boardTested}
+use Rattle.refusals.proofs.Starts.{past-start-off}
 use Rattle.records.specs.declared.BoardMark.the-variants.{Plain}
 use Rattle.records.specs.Records.{cellsIn}
 use Rattle.verdict.specs.declared.Verdict.{Verdict}
@@ -174,19 +175,12 @@ four-at-most true true false start number off = (omega arith, omega arith)
 four-at-most true false cell start number off = (omega arith, omega arith)
 four-at-most false length cell start number off = (omega arith, omega arith)
 
--- 255 is no row of a board that passes the test of its size
-retired-off : (rows columns row column : ℕ) → row ≡ 255 → sizeOk 1 rows columns ≡ true → startOk rows columns row column ≡ false
-unfolding sizeOk startOk
-retired-off rows columns row column is sized =
-    let low : rows ≤ 32 = leb-true rows 32 (and-right (leb 1 rows) (leb rows 32) (and-left (leb 1 rows && leb rows 32) (leb 1 columns && leb columns 32) sized)) in
-    rw (le-ltb row rows (omega arith))
-
 -- is refused, by the test of the start at the latest
 retired-number : (rows columns row column picture : ℕ) (b : List ℕ) → row ≡ 255
     → (0 < numberBy rows columns b picture (startOk rows columns row column)) × (numberBy rows columns b picture (startOk rows columns row column) ≤ 4)
 retired-number rows columns row column picture b is =
     four-at-most (sizeOk 1 rows columns) (all (lengthOk rows columns) (length b ∷ picture ∷ [])) (boardCellsOk b) (startOk rows columns row column)
-    (numbersOk (neighbours flat rows columns) b) (retired-off rows columns row column is)
+    (numbersOk (neighbours flat rows columns) b) (λ size. past-start-off rows columns size row column (omega arith))
 
 pub retired-refused : (r : List ℕ) → isOpen (getD r 4 0) (getD r 5 0) ≡ true → hasZero (cellsIn r) ≡ false
     → (0 < verdictNumber (verdictOf (migratedRecord r))) × (verdictNumber (verdictOf (migratedRecord r)) ≤ 4)

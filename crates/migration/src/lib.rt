@@ -27,7 +27,7 @@ pub struct Part {
 }
 
 // The place of the first 0 in reading order; the number of cells where there is none.
-pub fn first_zero(cells: &[u8]) -> usize
+fn first_zero(cells: &[u8]) -> usize
     ensures { λ r. ⌜ r ≡ firstZero (now (cells .entry)) ⌝ }
 {
     let mut c = 0;

@@ -1,15 +1,20 @@
--- The cell of a start that test 4 passes is on the board. Assumes nothing.
+-- The cell of a start that test 4 passes is on the board. A start in a row past the last of any board, as 255,255 is, is refused with 4 where tests 1 to 3 pass. Assumes nothing.
 use mathlib.Core.Path.{_≡_}
-use mathlib.Core.Bool.{true}
-use mathlib.Core.List.{List}
-use Prim.Native.Nat.{ℕ, _*_, _<_}
+use mathlib.Core.Bool.{Bool, true, false}
+use mathlib.Core.List.{List, _∷_}
+use Prim.Native.Nat.{ℕ, _*_, _≤_, _<_}
+use native.Mathlib.Omega.{arith}
 use lib.Arith.{digits-lt}
 use lib.Dec.{ltb}
 use lib.ListN.{length}
-use borrow.Author.Tests.{ltb-true}
+use borrow.Author.Tests.{ltb-true, le-ltb}
+use Rattle.lists.specs.Lists.{all}
 use Rattle.lists.proofs.Tests.{and-left, and-right}
 use Rattle.grid.specs.Window.{On}
-use Rattle.refusals.specs.Tests.{startOk, startCell}
+use Rattle.refusals.specs.declared.Refusal.the-variants.{Start}
+use Rattle.refusals.specs.declared.Tested.the-variants.{Refused}
+use Rattle.refusals.specs.Tests.{sizeOk, lengthOk, boardCellsOk, startOk, startCell, boardTested}
+use Rattle.refusals.proofs.Sides.{sizeOk-sized}
 
 module _ (rows columns row column : ℕ) (ok : startOk rows columns row column ≡ true) where
   pub start-on : On rows columns row column
@@ -22,3 +27,14 @@ module _ (rows columns row column : ℕ) (ok : startOk rows columns row column �
   pub startCell-within : (b : List ℕ) → length b ≡ rows * columns → startCell columns row column < length b
   unfolding startCell
   startCell-within b whole = rw whole (digits-lt (start-on .in-rows) (start-on .in-columns))
+
+module _ (rows columns : ℕ) (size : sizeOk 1 rows columns ≡ true) where
+  pub past-start-off : (row column : ℕ) → 32 ≤ row → startOk rows columns row column ≡ false
+  unfolding startOk
+  past-start-off row column past = rw (le-ltb row rows (omega (arith, sizeOk-sized 1 rows columns size .few-rows)))
+
+  -- the retired start, whatever the numbers
+  pub retired-start-refused : (edgeless : Bool) (b lent : List ℕ) → all (lengthOk rows columns) (length b ∷ lent) ≡ true → boardCellsOk b ≡ true
+      → boardTested edgeless rows columns 255 255 b lent ≡ Refused Start
+  unfolding boardTested
+  retired-start-refused edgeless b lent lengths cells = rw (size, lengths, cells, past-start-off 255 255 (omega arith))
