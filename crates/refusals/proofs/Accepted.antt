@@ -16,7 +16,7 @@ use Rattle.refusals.specs.declared.Tested.the-variants.{Accepted}
 use Rattle.refusals.specs.Refusals.{tested}
 use Rattle.refusals.specs.SharedTests.{cellTests}
 use Rattle.refusals.specs.Tests.{sizeOk, lengthOk, roomOk, boardCellsOk, positionCellsOk, startOk, minesBeside, numbersOk, startCell, boardTests, boardTested, positionTests, positionTested, deductionTests, deductionTested, patternTests, patternTested}
-use Rattle.refusals.proofs.Starts.{startCell-within}
+use Rattle.refusals.proofs.Starts.{startCell-within, startSafe-safe}
 use Rattle.refusals.proofs.CellValues.{board-cell, position-shows}
 use Rattle.refusals.proofs.Numbers.{numberOk, number-counts}
 use Rattle.refusals.proofs.FirstFailure.{accepted-at}
@@ -31,6 +31,7 @@ pub record AcceptedBoard (edgeless : Bool) (rows columns row column : ℕ) (b le
   pub start : startOk rows columns row column ≡ true
   pub numbers : numbersOk (neighbours edgeless rows columns) b ≡ true
   pub start-within : startCell columns row column < length b
+  pub start-safe : cellOf b (startCell columns row column) ≢ 255
 
 pub record AcceptedPosition (rows columns : ℕ) (p : List ℕ) : Type 0 where
   pub board : Board p rows columns
@@ -75,6 +76,7 @@ accepted-board edgeless rows columns row column b lent h =
       start = passes 3 (omega arith);
       numbers = passes 4 (omega arith);
       start-within = startCell-within rows columns row column (passes 3 (omega arith)) b (board .whole);
+      start-safe = startSafe-safe columns row column b (passes 5 (omega arith));
     }
 
 -- each lent length, by its place in the list

@@ -14,7 +14,7 @@ use Rattle.lists.specs.Lists.{all, has}
 use Rattle.lists.proofs.All.{all-at}
 use Rattle.lists.proofs.Tests.{Decided, decided, clash, and-left, and-right, or-right}
 use Rattle.refusals.specs.declared.Refusal.{Refusal}
-use Rattle.refusals.specs.declared.Refusal.the-variants.{Size, Length, Cell, Start, Number, Contradiction, Block, Table, Mark, Short}
+use Rattle.refusals.specs.declared.Refusal.the-variants.{Size, Length, Cell, Start, Number, Contradiction, Block, Table, Mark, Short, StartMine}
 use Rattle.refusals.specs.declared.Tested.{Tested}
 use Rattle.refusals.specs.declared.Tested.the-variants.{Accepted, Refused}
 use Rattle.refusals.specs.Refusals.{refusalNumber, Test, test, tested}
@@ -73,7 +73,7 @@ tested-append ts us e = rw (← e) (both ts)
 
 -- the numbers that are given
 abbrev pub givenNumbers : List ℕ
-givenNumbers = 1 ∷ 2 ∷ 3 ∷ 4 ∷ 5 ∷ 6 ∷ 8 ∷ 9 ∷ 10 ∷ 11 ∷ []
+givenNumbers = 1 ∷ 2 ∷ 3 ∷ 4 ∷ 5 ∷ 6 ∷ 8 ∷ 9 ∷ 10 ∷ 11 ∷ 13 ∷ []
 
 refusal-given : (r : Refusal) → has givenNumbers (refusalNumber r) ≡ true
 refusal-given Size = refl
@@ -86,6 +86,7 @@ refusal-given Block = refl
 refusal-given Table = refl
 refusal-given Mark = refl
 refusal-given Short = refl
+refusal-given StartMine = refl
 
 refusal-not : (n : ℕ) → has givenNumbers n ≡ false → (r : Refusal) → refusalNumber r ≢ n
 refusal-not n out r e = clash (has givenNumbers n) (rw e at (refusal-given r)) out

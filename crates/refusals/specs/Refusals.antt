@@ -3,7 +3,7 @@ use mathlib.Core.Bool.{Bool, cond}
 use mathlib.Core.List.{List, [], _∷_}
 use Prim.Native.Nat.{ℕ}
 use Rattle.refusals.specs.declared.Refusal.{Refusal}
-use Rattle.refusals.specs.declared.Refusal.the-variants.{Size, Length, Cell, Start, Number, Contradiction, Block, Table, Mark, Short}
+use Rattle.refusals.specs.declared.Refusal.the-variants.{Size, Length, Cell, Start, Number, Contradiction, Block, Table, Mark, Short, StartMine}
 use Rattle.refusals.specs.declared.Tested.{Tested}
 use Rattle.refusals.specs.declared.Tested.the-variants.{Accepted, Refused}
 
@@ -19,6 +19,7 @@ refusalNumber Block = 8
 refusalNumber Table = 9
 refusalNumber Mark = 10
 refusalNumber Short = 11
+refusalNumber StartMine = 13
 
 -- the number that a caller sees: 0 where nothing is refused
 abbrev pub testedNumber : Tested → ℕ

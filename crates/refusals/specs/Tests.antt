@@ -1,12 +1,12 @@
--- The tests of refusals 1 to 5 of SPECIFICATION 3.1, each as a Bool that is true where the input passes, and the lists of tests that
+-- The tests of refusals 1 to 5 and 13 of SPECIFICATION 3.1, each as a Bool that is true where the input passes, and the lists of tests that
 -- each kind of call makes, in the order of 3.3. Assumes nothing.
-use mathlib.Core.Bool.{Bool, _&&_, _||_}
+use mathlib.Core.Bool.{Bool, not, _&&_, _||_}
 use mathlib.Core.List.{List, [], _∷_}
 use Prim.Native.Nat.{ℕ, _+_, _*_}
 use lib.Dec.{leb, ltb, eqb}
 use lib.ListN.{length}
 use Rattle.lists.specs.Lists.{every, all, count}
-use Rattle.refusals.specs.declared.Refusal.the-variants.{Size, Length, Cell, Start, Number}
+use Rattle.refusals.specs.declared.Refusal.the-variants.{Size, Length, Cell, Start, Number, StartMine}
 use Rattle.refusals.specs.declared.Tested.{Tested}
 use Rattle.grid.specs.Cells.{isBoardCell, isPositionCell, cellOf}
 use Rattle.grid.specs.Window.{neighbours}
@@ -47,6 +47,10 @@ numbersOk near b = every (length b) (λ c. eqb (cellOf b c) 255 || eqb (minesBes
 unfoldable pub startCell : ℕ → ℕ → ℕ → ℕ
 startCell columns row column = row * columns + column
 
+-- 13, start on a mine: the start's cell is safe
+unfoldable pub startSafe : ℕ → ℕ → ℕ → List ℕ → Bool
+startSafe columns row column b = not (eqb (cellOf b (startCell columns row column)) 255)
+
 -- a board call, lent slices of these lengths
 abbrev pub boardTests : Bool → ℕ → ℕ → ℕ → ℕ → List ℕ → List ℕ → List Test
 boardTests edgeless rows columns row column b lent =
@@ -55,6 +59,7 @@ boardTests edgeless rows columns row column b lent =
     ∷ test (boardCellsOk b) Cell
     ∷ test (startOk rows columns row column) Start
     ∷ test (numbersOk (neighbours edgeless rows columns) b) Number
+    ∷ test (startSafe columns row column b) StartMine
     ∷ []
 
 unfoldable pub boardTested : Bool → ℕ → ℕ → ℕ → ℕ → List ℕ → List ℕ → Tested

@@ -3,12 +3,12 @@
 use grid::window::count_beside;
 use grid::window::wide_byte;
 ghost use mathlib.Core.Path.{_≡_};
-ghost use mathlib.Core.Bool.{true, cond, _&&_};
+ghost use mathlib.Core.Bool.{true, not, cond, _&&_, _||_};
 ghost use lib.Dec.{leb};
 ghost use Rattle.lists.specs.Lists.{all};
 ghost use Rattle.grid.specs.Window.{neighbours, Sized, Board};
 ghost use Rattle.refusals.specs.Refusals.{refusalNumber, tested};
-ghost use Rattle.refusals.specs.Tests.{sizeOk, lengthOk, roomOk, startOk, numbersOk, startCell, boardTested, positionTested, deductionTested, patternTested};
+ghost use Rattle.refusals.specs.Tests.{sizeOk, lengthOk, roomOk, startOk, numbersOk, startCell, startSafe, boardTested, positionTested, deductionTested, patternTested};
 ghost use Rattle.refusals.specs.SharedTests.{cellIn, cellTests};
 
 // What a call may refuse, in the order of their numbers, of which 7 is not given again.
@@ -23,6 +23,7 @@ pub enum Refusal {
     Table,
     Mark,
     Short,
+    StartMine,
 }
 
 // What a call's tests answer.
@@ -46,6 +47,7 @@ pub fn refusal_number(refusal: Refusal) -> u8
         Refusal::Table => 9,
         Refusal::Mark => 10,
         Refusal::Short => 11,
+        Refusal::StartMine => 13,
     }
 }
 
@@ -160,6 +162,18 @@ pub fn start_cell(rows: usize, columns: usize, row: usize, column: usize) -> usi
     row * columns + column
 }
 
+// Test 13: the start is not on a mine. One off the board passes; test 4 has refused it.
+fn start_safe(rows: usize, columns: usize, row: usize, column: usize, cells: &[u8]) -> bool
+    requires { ⌜ Board (now cells) rows columns ⌝ }
+    ensures { λ r. ⌜ r ≡ (not (startOk rows columns row column) || startSafe columns row column (now (cells .entry))) ⌝ }
+{
+    if start_ok(rows, columns, row, column) {
+        cells[start_cell(rows, columns, row, column)] != 255
+    } else {
+        true
+    }
+}
+
 // The refusal of a test that fails, by its answer; else what the tests after it answer.
 fn first_refusal(passes: bool, refusal: Refusal, later: Tested) -> Tested
     ensures { λ r. ⌜ r ≡ cond passes later (Tested.Refused refusal) ⌝ }
@@ -206,7 +220,9 @@ pub fn test_board(
         Tested::Accepted => {
             let start = start_ok(rows, columns, row, column);
             let numbers = numbers_ok(edgeless, rows, columns, cells);
-            let later = first_refusal(numbers, Refusal::Number, Tested::Accepted);
+            let safe = start_safe(rows, columns, row, column, cells);
+            let last = first_refusal(safe, Refusal::StartMine, Tested::Accepted);
+            let later = first_refusal(numbers, Refusal::Number, last);
             first_refusal(start, Refusal::Start, later)
         }
     }
