@@ -6,6 +6,7 @@ use mathlib.Core.List.{List}
 use Prim.Native.Nat.{ℕ, _≤_}
 use native.Mathlib.Omega.{arith}
 use lib.ListN.{length, take, replicate, length-replicate}
+use Rattle.lists.proofs.Arrays.{take-replicate}
 use Rattle.grid.specs.Window.{flat}
 use Rattle.verdict.specs.Verdict.{VerdictSeen, isSolvable}
 use Rattle.text.specs.Text.{Written}
@@ -14,7 +15,6 @@ use Rattle.lines.specs.declared.StartLine.{StartLine}
 use Rattle.lines.specs.Lines.{startLineOf, unreadableText}
 use Rattle.lines.proofs.Answered.{unreadable-told, readable-told}
 use Rattle.record_lines.specs.Answers.{verdictText}
-use Rattle.record_lines.proofs.Answering.{take-replicate}
 use Rattle.board_lines.specs.Verdicts.{pictureText, verdictSeenText, verdictOn, verdictLine}
 
 -- what the caller sees

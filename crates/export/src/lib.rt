@@ -15,14 +15,12 @@ use tables::cal_all_solution;
 use verdict::Verdict;
 use verdict::is_solvable;
 ghost use mathlib.Core.Path.{_≡_};
-ghost use mathlib.Core.Logic.{_≢_};
 ghost use mathlib.Core.Bool.{Bool};
 ghost use mathlib.Core.List.{List, [], _∷_};
 ghost use Prim.Native.Nat.{_<_};
 ghost use lib.Dec.{eqb};
 ghost use lib.ListN.{length, getD, set};
 ghost use Rattle.lists.specs.Lists.{bit as bitOf};
-ghost use Rattle.grid.specs.Cells.{cellOf};
 ghost use Rattle.grid.specs.Window.{flat, neighbours};
 ghost use Rattle.refusals.specs.declared.Tested.the-variants.{Accepted};
 ghost use Rattle.refusals.specs.Tests.{boardTested, deductionTested, startCell};
@@ -252,7 +250,6 @@ pub extern "C" fn lihvompa_verdict(
     ensures { λ r. ⌜ returned r (now (picture .exit) ∷ []) (now (counts .exit))
         ≡ verdictReturned (isSolvable flat rows columns «start_row» «start_column» (now (cells .entry)) (now (picture .entry))) (now (counts .entry)) ⌝ }
     ensures { λ r. ⌜ (boardTested flat rows columns «start_row» «start_column» (now (cells .entry)) (length (now (picture .entry)) ∷ []) ≡ Accepted
-        → cellOf (now (cells .entry)) (startCell columns «start_row» «start_column») ≢ 255
         → 1 < length (now (counts .entry))
         → Demand3 (neighbours flat rows columns) (now (cells .entry)) (startCell columns «start_row» «start_column»)
         (eqb (getD (now (counts .exit)) 0 0) 1) (getD (now (counts .exit)) 1 0) (now (picture .exit))) ⌝ }

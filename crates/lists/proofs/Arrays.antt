@@ -22,6 +22,12 @@ module _ {A : Type 0} where
   pub pad-take : (n : ℕ) (d : A) (l : List A) → take (length l) (pad n d l) ≡ l
   pad-take n d l = take-append-seam l (replicate (n - length l) d)
 
+  -- the first of equal elements
+  pub take-replicate : (k n : ℕ) (x : A) → k ≤ n → take k (replicate n x) ≡ replicate k x
+  take-replicate zero n x h = refl
+  take-replicate (suc k) zero x h = absurd (not-suc-le-zero h)
+  take-replicate (suc k) (suc n) x h = ap (x ∷_) (take-replicate k n x (le-of-suc-le-suc h))
+
   fill-all : (k : ℕ) (d : A) (i : ℕ) → getD (replicate k d) i d ≡ d
   fill-all zero d i = refl
   fill-all (suc k) d zero = refl

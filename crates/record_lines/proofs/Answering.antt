@@ -1,20 +1,14 @@
 -- The picture that the verdict of a record is lent is a part of an array of zeros, which is as many zeros. Assumes nothing.
-use Prim.Native.Nat.{ℕ, zero, suc, _≤_}
-use mathlib.Core.Path.{_≡_, refl, sym, ap, _∙_}
-use mathlib.Core.List.{List, _∷_}
-use native.Mathlib.Omega.{arith}
+use Prim.Native.Nat.{ℕ, _≤_}
+use mathlib.Core.Path.{_≡_, sym, ap, _∙_}
+use mathlib.Core.List.{List}
 use lib.ListN.{take, replicate}
+use Rattle.lists.proofs.Arrays.{take-replicate}
 use Rattle.grid.specs.Window.{flat}
 use Rattle.records.specs.declared.BoardMark.the-variants.{Plain}
 use Rattle.verdict.specs.declared.Verdict.{Verdict}
 use Rattle.verdict.specs.Verdict.{VerdictSeen, verdictSeen, isSolvable}
 use Rattle.record_lines.specs.Answers.{pictureSize, boardVerdict}
-
--- the first of equal elements
-pub take-replicate : {A : Type 0} (k n : ℕ) (x : A) → k ≤ n → take k (replicate n x) ≡ replicate k x
-take-replicate zero n x h = refl
-take-replicate (suc k) zero x h = absurd (omega arith)
-take-replicate (suc k) (suc n) x h = ap (x ∷_) (take-replicate k n x (omega arith))
 
 -- so the call's answer is the record's verdict
 pub verdict-of-zeros : {shown : List ℕ} {v : Verdict} (rows columns row column : ℕ) (cells : List ℕ) (size : ℕ) (picture : List ℕ)

@@ -1,11 +1,9 @@
--- Demand 3 of a printed line: the line of an accepted plain board with a safe start tells a verdict and an opened count of which demand 3 holds, with the picture that the verdict filled.
+-- Demand 3 of a printed line: the line of an accepted plain board tells a verdict and an opened count of which demand 3 holds, with the picture that the verdict filled.
 -- And what the grade in a line tells, under whatever mark. Rests on `answer-demand-3` and `grade-tells` of the crate verdict. Assumes nothing.
 use mathlib.Core.Path.{_≡_, refl}
-use mathlib.Core.Logic.{_≢_}
 use mathlib.Core.List.{List, [], _∷_}
 use Prim.Native.Nat.{ℕ}
 use lib.ListN.{replicate, length-replicate}
-use Rattle.grid.specs.Cells.{cellOf}
 use Rattle.grid.specs.Window.{flat, neighbours}
 use Rattle.refusals.specs.declared.Tested.the-variants.{Accepted}
 use Rattle.refusals.specs.Tests.{boardTested, startCell}
@@ -18,13 +16,13 @@ use Rattle.verdict.proofs.Bounds.{GradeTells, refusal-tells, grade-tells}
 use Rattle.record_lines.specs.Answers.{pictureSize, boardVerdict}
 
 module _ (rows columns row column : ℕ) (b : List ℕ) where
-  pub line-demand-3 : boardTested flat rows columns row column b (pictureSize rows columns ∷ []) ≡ Accepted → cellOf b (startCell columns row column) ≢ 255
+  pub line-demand-3 : boardTested flat rows columns row column b (pictureSize rows columns ∷ []) ≡ Accepted
       → (shown : List ℕ) × MeetsDemand3 (neighbours flat rows columns) b (startCell columns row column) (boardVerdict Plain rows columns row column b) shown
   unfolding boardVerdict
-  line-demand-3 tests safe = (
+  line-demand-3 tests = (
     isSolvable flat rows columns row column b (replicate (pictureSize rows columns) 0) .shown,
     answer-demand-3 flat rows columns row column b (replicate (pictureSize rows columns) 0)
-        (rw (length-replicate {A = ℕ} (pictureSize rows columns) 0) tests) safe _ _ refl,
+        (rw (length-replicate {A = ℕ} (pictureSize rows columns) 0) tests) _ _ refl,
   )
 
   -- the grade is 4 exactly where the line says no

@@ -4,13 +4,11 @@ use mathlib.Core.Path.{_≡_, refl, sym, ap}
 use mathlib.Core.Logic.{inl, inr, _↔_}
 use mathlib.Core.Bool.{Bool, true, false}
 use mathlib.Core.List.{List, [], _∷_}
-use Prim.Native.Nat.{ℕ, _≤_, _<_}
+use Prim.Native.Nat.{ℕ, _≤_}
 use native.Mathlib.Omega.{arith}
-use lib.Dec.{eqb}
 use lib.ListN.{length}
 use borrow.Author.Tests.{eqb-false}
 use Rattle.lists.proofs.Tests.{Decided, decided, clash}
-use Rattle.grid.specs.Cells.{cellOf}
 use Rattle.grid.specs.Window.{neighbours}
 use Rattle.refusals.specs.declared.Refusal.{Refusal}
 use Rattle.refusals.specs.declared.Tested.{Tested}
@@ -19,7 +17,6 @@ use Rattle.refusals.specs.Refusals.{refusalNumber}
 use Rattle.refusals.specs.Tests.{boardTested, startCell}
 use Rattle.refusals.proofs.Accepted.{accepted-board}
 use Rattle.refusals.proofs.FirstFailure.{refusal-not-zero}
-use Rattle.fitting.specs.Boards.{Accepted as AcceptedBoard}
 use Rattle.fitting.specs.Demand.{opened}
 use Rattle.fitting.specs.Passes.{nothing, orElse, Ending, judge}
 use Rattle.fitting.proofs.Passes.{rounds-cells, grade-of-a-rule, grade-zero}
@@ -83,27 +80,10 @@ module _ (near : ℕ → List ℕ) (b : List ℕ) (s : ℕ) where
   ends = judge near b (threeRules near) s
 
   judged-grade : GradeTells (judgedFrom near b s .answer)
-  unfolding judgedFrom
-  judged-grade = go (decided (eqb (cellOf b s) 255))
-    where
-      go : Decided (eqb (cellOf b s) 255) → GradeTells (judgedFrom near b s .answer)
-      go (inl e) = rw e (board-grade-tells false 0 0 0 (omega arith) (λ z. z, λ z. z))
-      go (inr e) =
-          rw e
-          (board-grade-tells (ends .yes) (opened (ends .position)) (ends .grade) (ends .rounds)
-          (grade-of-a-rule near b (threeRules near) s (λ g. g ≤ 3) (omega arith) (λ p _. three-grades near p .1))
-          (grade-zero near b (threeRules near) s (λ p _. three-grades near p .0)))
-
-judged-rounds : (edgeless : Bool) (rows columns : ℕ) (b : List ℕ) (s : ℕ) → AcceptedBoard (neighbours edgeless rows columns) b → s < length b
-    → verdictRounds (judgedFrom (neighbours edgeless rows columns) b s .answer) ≤ length b
-unfolding judgedFrom
-judged-rounds edgeless rows columns b s ok l = go (decided (eqb (cellOf b s) 255))
-  where
-    go : Decided (eqb (cellOf b s) 255) → verdictRounds (judgedFrom (neighbours edgeless rows columns) b s .answer) ≤ length b
-    go (inl e) = rw e (omega arith)
-    go (inr e) =
-        rw e
-        (rounds-cells (neighbours edgeless rows columns) b (threeRules (neighbours edgeless rows columns)) s ok l (eqb-false (cellOf b s) 255 e) (board-rules-sound edgeless rows columns b))
+  judged-grade =
+      board-grade-tells (ends .yes) (opened (ends .position)) (ends .grade) (ends .rounds)
+      (grade-of-a-rule near b (threeRules near) s (λ g. g ≤ 3) (omega arith) (λ p _. three-grades near p .1))
+      (grade-zero near b (threeRules near) s (λ p _. three-grades near p .0))
 
 -- ---- of the call
 
@@ -130,8 +110,9 @@ module _ (edgeless : Bool) (rows columns row column : ℕ) (b shown : List ℕ) 
     where
       go : (t : Tested) → tests ≡ t → verdictRounds (verdictAfterTests t judged shown .answer) ≤ length b
       go Accepted e =
-          judged-rounds edgeless rows columns b (startCell columns row column) (tested-accepted edgeless rows columns row column b (length shown ∷ []) e)
-          (accepted-board edgeless rows columns row column b (length shown ∷ []) e .start-within)
+          let accepted = accepted-board edgeless rows columns row column b (length shown ∷ []) e in
+          rounds-cells (neighbours edgeless rows columns) b (threeRules (neighbours edgeless rows columns)) (startCell columns row column)
+          (tested-accepted edgeless rows columns row column b (length shown ∷ []) e) (accepted .start-within) (accepted .start-safe) (board-rules-sound edgeless rows columns b)
       go (TestRefused x) e = omega arith
 
   -- so of an answer that is the definition's

@@ -1,22 +1,19 @@
--- Demand 3 of what the verdict answers, whole: for every board that the tests accept with a safe start, and every list of asks, since the definition of the
+-- Demand 3 of what the verdict answers, whole: for every board that the tests accept, and every list of asks, since the definition of the
 -- answer is the passes over the three rules, which are sound and complete. Rests on `judge-demand-3` of the crate fitting and on the three rules' laws of the
 -- crate enumeration. Assumes nothing.
 use mathlib.Core.Path.{_≡_, refl, ap, _∙_}
-use mathlib.Core.Logic.{_≢_}
 use mathlib.Core.Bool.{Bool}
 use mathlib.Core.List.{List, [], _∷_}
 use Prim.Native.Nat.{ℕ}
+use native.Mathlib.Omega.{arith}
 use lib.ListN.{length}
-use borrow.Author.Tests.{ne-eqb, eqb-false}
 use Rattle.lists.proofs.Tests.{bit-is-one}
-use Rattle.grid.specs.Cells.{cellOf}
 use Rattle.grid.specs.Window.{neighbours}
 use Rattle.refusals.specs.declared.Refusal.{Refusal}
 use Rattle.refusals.specs.declared.Tested.the-variants.{Accepted, Refused as TestRefused}
 use Rattle.refusals.specs.Tests.{boardTested, startCell}
 use Rattle.refusals.proofs.Accepted.{accepted-board}
-use Rattle.refusals.specs.Refusals.{refusalNumber}
-use Rattle.refusals.proofs.FirstFailure.{not-both, refusal-not-zero}
+use Rattle.refusals.proofs.FirstFailure.{not-both}
 use Rattle.fitting.specs.Passes.{Ending, judge}
 use Rattle.fitting.specs.Demand.{Demand3, picture, opened}
 use Rattle.fitting.proofs.Passes.{judge-demand-3}
@@ -24,13 +21,13 @@ use Rattle.enumeration.specs.ThreeRules.{threeRules}
 use Rattle.enumeration.proofs.BoardRules.{board-rules-sound, board-rules-complete}
 use Rattle.verdict.specs.declared.Verdict.{Verdict}
 use Rattle.verdict.specs.declared.Verdict.the-variants.{Refused}
-use Rattle.verdict.specs.Verdict.{VerdictSeen, verdictSeen, endSeen, judgedFrom, isSolvable, MeetsDemand3}
+use Rattle.verdict.specs.Verdict.{VerdictSeen, verdictSeen, judgedFrom, isSolvable, MeetsDemand3}
 use Rattle.verdict.proofs.Admitted.{tested-accepted}
 
 -- a refusal doesn't meet it
 pub refusal-never-meets : {P : Type 0} {near : ℕ → List ℕ} {b : List ℕ} {s : ℕ} {v : Verdict} {r : Refusal} {shown : List ℕ} → v ≡ Refused r
     → MeetsDemand3 near b s v shown → P
-refusal-never-meets {r = r} is (answered, _) = absurd (eqb-false (refusalNumber r) 0 (refusal-not-zero r) (rw is at answered))
+refusal-never-meets is (has-values, _) = let none : _≡_ {A = ℕ} 0 4 = rw is at has-values in absurd (omega arith)
 
 module _ (edgeless : Bool) (rows columns row column : ℕ) (b shown : List ℕ) where
   -- the start's cell
@@ -51,27 +48,20 @@ module _ (edgeless : Bool) (rows columns row column : ℕ) (b shown : List ℕ) 
     refusal-demand-3 accepted = not-both (boardTested edgeless rows columns row column b (length shown ∷ [])) x accepted tests
 
   module _ (tests : boardTested edgeless rows columns row column b (length shown ∷ []) ≡ Accepted) where
-    -- the tests accept: the verdict is that from the start's cell
+    -- the tests accept: the verdict is that from the start's cell, the end of the passes
     pub tests-accept : isSolvable edgeless rows columns row column b shown ≡ judgedFrom (neighbours edgeless rows columns) b (startCell columns row column)
     unfolding isSolvable
     tests-accept = rw tests
 
-    module _ (safe : cellOf b (startCell columns row column) ≢ 255) where
-      -- and with a safe start it is the end of the passes
-      pub passes-seen : isSolvable edgeless rows columns row column b shown
-          ≡ endSeen (judge (neighbours edgeless rows columns) b (threeRules (neighbours edgeless rows columns)) (startCell columns row column))
-      unfolding judgedFrom
-      passes-seen = tests-accept ∙ rw (ne-eqb (cellOf b start) 255 safe)
+    passes-demand-3 : Demand3 (neighbours edgeless rows columns) b start (passed .yes) (opened (passed .position)) (picture (passed .position))
+    passes-demand-3 =
+        let accepted = accepted-board edgeless rows columns row column b (length shown ∷ []) tests in
+        judge-demand-3 (neighbours edgeless rows columns) b (threeRules (neighbours edgeless rows columns)) start (tested-accepted edgeless rows columns row column b (length shown ∷ []) tests)
+        (accepted .start-within) (accepted .start-safe) (board-rules-sound edgeless rows columns b) (board-rules-complete edgeless rows columns b)
 
-      passes-demand-3 : Demand3 (neighbours edgeless rows columns) b start (passed .yes) (opened (passed .position)) (picture (passed .position))
-      passes-demand-3 =
-          judge-demand-3 (neighbours edgeless rows columns) b (threeRules (neighbours edgeless rows columns)) start (tested-accepted edgeless rows columns row column b (length shown ∷ []) tests)
-          (accepted-board edgeless rows columns row column b (length shown ∷ []) tests .start-within) safe
-          (board-rules-sound edgeless rows columns b) (board-rules-complete edgeless rows columns b)
-
-      -- demand 3 of an answer that is the definition's
-      pub answer-demand-3 : (r : Verdict) (after : List ℕ) → verdictSeen r after ≡ isSolvable edgeless rows columns row column b shown
-          → MeetsDemand3 (neighbours edgeless rows columns) b (startCell columns row column) r after
-      answer-demand-3 r after e =
-          let told = e ∙ passes-seen in
-          rw (ap (λ (w : VerdictSeen). w .answer) told, ap (λ (w : VerdictSeen). w .shown) told) (refl, rw (bit-is-one (passed .yes)) passes-demand-3)
+    -- demand 3 of an answer that is the definition's
+    pub answer-demand-3 : (r : Verdict) (after : List ℕ) → verdictSeen r after ≡ isSolvable edgeless rows columns row column b shown
+        → MeetsDemand3 (neighbours edgeless rows columns) b (startCell columns row column) r after
+    answer-demand-3 r after e =
+        let told = e ∙ tests-accept in
+        rw (ap (λ (w : VerdictSeen). w .answer) told, ap (λ (w : VerdictSeen). w .shown) told) (refl, rw (bit-is-one (passed .yes)) passes-demand-3)

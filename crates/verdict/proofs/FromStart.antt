@@ -1,16 +1,16 @@
--- The verdict from the start's cell, step by step as the code takes them: an array has room for the board's cells; every cell of a position is
--- closed; a start on a mine is judged no; else the start is opened, which leads to the position where the passes begin, and the end of the passes, graded, is
--- what the caller sees. Assumes nothing.
-use mathlib.Core.Path.{_≡_, refl, sym, ap, _∙_}
+-- The verdict from the start's cell, step by step as the code takes them: an array has room for the board's cells, each of them closed; the start, which is safe, is
+-- opened, which leads to the position where the passes begin; and the end of the passes, graded, is what the caller sees. Assumes nothing.
+use mathlib.Core.Path.{_≡_, _∙_}
 use mathlib.Core.Logic.{_≢_}
-use mathlib.Core.Bool.{Bool, true, false, _&&_}
+use mathlib.Core.Bool.{Bool, true, _&&_}
 use mathlib.Core.List.{List, [], _∷_}
-use Prim.Native.Nat.{ℕ, zero, suc, _*_, _≤_, _<_}
+use Prim.Native.Nat.{ℕ, _*_, _≤_, _<_}
 use native.Mathlib.Omega.{arith}
 use lib.Dec.{ltb}
 use lib.ListN.{length, take, replicate, length-replicate}
 use lib.Seq.{length-take-le}
-use borrow.Author.Tests.{lt-ltb, eq-eqb, ne-eqb}
+use borrow.Author.Tests.{lt-ltb}
+use Rattle.lists.proofs.Arrays.{take-replicate}
 use Rattle.grid.specs.Cells.{cellOf}
 use Rattle.grid.proofs.Places.{few-cells}
 use Rattle.grid.specs.Window.{neighbours, Board}
@@ -27,15 +27,6 @@ use Rattle.verdict.specs.declared.Verdict.the-variants.{Judged}
 use Rattle.verdict.specs.Findings.{endOf}
 use Rattle.verdict.specs.Verdict.{boardGrade, verdictSeen, judgedFrom}
 
--- of closed cells none is open
-none-open : (n : ℕ) → opened (replicate n 10) ≡ 0
-none-open zero = refl
-none-open (suc n) = omega (arith, none-open n)
-
-none-shown : (n : ℕ) → picture (replicate n 10) ≡ replicate n 10
-none-shown zero = refl
-none-shown (suc n) = ap (λ (l : List ℕ). 10 ∷ l) (none-shown n)
-
 -- an array that is all closed
 abbrev pub array : List ℕ
 array = replicate 1024 10
@@ -47,6 +38,10 @@ module _ {rows columns : ℕ} {b : List ℕ} (board : Board b rows columns) wher
 
   pub front-long : length (take (length b) array) ≡ length b
   front-long = length-take-le (length b) array (omega (arith, few, length-replicate {A = ℕ} 1024 10))
+
+  -- all of them closed
+  pub front-closed : take (length b) array ≡ replicate (length b) 10
+  front-closed = take-replicate (length b) 1024 10 few
 
   pub front-board : Board (take (length b) array) rows columns
   front-board = record { sized = board .sized; whole = front-long ∙ board .whole }
@@ -60,46 +55,28 @@ module _ {rows columns : ℕ} {b : List ℕ} (board : Board b rows columns) (s :
   pub start-below : (ltb s (rows * columns) && true) ≡ true
   start-below = rw (lt-ltb s (rows * columns) (rw (board .whole) at l))
 
-  -- every cell of a position is closed
-  module _ {lent : List ℕ} (whole : Board lent rows columns) {closed : List ℕ} (is : closed ≡ replicate (length lent) 10) where
-    pub closed-board : Board closed rows columns
-    closed-board = record { sized = board .sized; whole = ap length is ∙ length-replicate (length lent) 10 ∙ whole .whole }
-
-    -- as many as the board has
-    pub closed-all : closed ≡ replicate (length b) 10
-    closed-all = is ∙ ap (λ (n : ℕ). replicate n 10) (whole .whole ∙ sym (board .whole))
-
 module _ (edgeless : Bool) {rows columns : ℕ} {b : List ℕ} (board : Board b rows columns) (s : ℕ) (l : s < length b) where
-  -- the start is a mine: nothing is open
-  pub start-mine : cellOf b s ≡ 255 → {closed : List ℕ} → closed ≡ replicate (length b) 10 → {n grade : ℕ} {shown : List ℕ} → n ≡ opened closed → shown ≡ picture closed
-      → grade ≡ boardGrade false 0 → verdictSeen (Judged false n grade 0) shown ≡ judgedFrom (neighbours edgeless rows columns) b s
-  unfolding judgedFrom
-  start-mine e is count shows graded = rw (count, shows, graded, is, none-open (length b), none-shown (length b), eq-eqb (cellOf b s) 255 e)
+  -- the start is opened, and that is where the passes begin
+  module _ (safe : cellOf b s ≢ 255) (ok : Accepted (neighbours edgeless rows columns) b) {closed : List ℕ} (is : closed ≡ replicate (length b) 10)
+      {first : List ℕ} (opens : first ≡ openCells (neighbours edgeless rows columns) b closed (s ∷ [])) where
+    pub first-begins : first ≡ beginning (neighbours edgeless rows columns) b s
+    first-begins = opens ∙ rw is
 
-  -- the start is safe
-  module _ (safe : cellOf b s ≢ 255) where
-    -- it is opened, and that is where the passes begin
-    module _ (ok : Accepted (neighbours edgeless rows columns) b) {closed : List ℕ} (is : closed ≡ replicate (length b) 10)
-        {first : List ℕ} (opens : first ≡ openCells (neighbours edgeless rows columns) b closed (s ∷ [])) where
-      pub first-begins : first ≡ beginning (neighbours edgeless rows columns) b s
-      first-begins = opens ∙ rw is
+    pub first-own : Fits (neighbours edgeless rows columns) first (own b)
+    first-own = rw first-begins (begin-own (neighbours edgeless rows columns) b s ok l safe)
 
-      pub first-own : Fits (neighbours edgeless rows columns) first (own b)
-      first-own = rw first-begins (begin-own (neighbours edgeless rows columns) b s ok l safe)
+    pub first-board : Board first rows columns
+    first-board = record { sized = board .sized; whole = fit-length (neighbours edgeless rows columns) b first first-own ∙ board .whole }
 
-      pub first-board : Board first rows columns
-      first-board = record { sized = board .sized; whole = fit-length (neighbours edgeless rows columns) b first first-own ∙ board .whole }
+    pub first-passes : judge (neighbours edgeless rows columns) b (threeRules (neighbours edgeless rows columns)) s
+        ≡ passes (neighbours edgeless rows columns) b (threeRules (neighbours edgeless rows columns)) (length b) first 0 0
+    unfolding judge
+    first-passes = rw first-begins
 
-      pub first-passes : judge (neighbours edgeless rows columns) b (threeRules (neighbours edgeless rows columns)) s
-          ≡ passes (neighbours edgeless rows columns) b (threeRules (neighbours edgeless rows columns)) (length b) first 0 0
-      unfolding judge
-      first-passes = rw first-begins
-
-    -- and what is seen is the end of the passes
-    pub passes-told : {e : Ending} {last : List ℕ}
-        → e ≡ endOf (judge (neighbours edgeless rows columns) b (threeRules (neighbours edgeless rows columns)) s)
-        → last ≡ judge (neighbours edgeless rows columns) b (threeRules (neighbours edgeless rows columns)) s .position
-        → {n grade : ℕ} {shown : List ℕ} → n ≡ opened last → shown ≡ picture last → grade ≡ boardGrade (e .yes) (e .grade)
-        → verdictSeen (Judged (e .yes) n grade (e .rounds)) shown ≡ judgedFrom (neighbours edgeless rows columns) b s
-    unfolding judgedFrom
-    passes-told ends at count shows graded = rw (ne-eqb (cellOf b s) 255 safe, graded, count, shows, at, ends)
+  -- and what is seen is the end of the passes
+  pub passes-told : {e : Ending} {last : List ℕ}
+      → e ≡ endOf (judge (neighbours edgeless rows columns) b (threeRules (neighbours edgeless rows columns)) s)
+      → last ≡ judge (neighbours edgeless rows columns) b (threeRules (neighbours edgeless rows columns)) s .position
+      → {n grade : ℕ} {shown : List ℕ} → n ≡ opened last → shown ≡ picture last → grade ≡ boardGrade (e .yes) (e .grade)
+      → verdictSeen (Judged (e .yes) n grade (e .rounds)) shown ≡ judgedFrom (neighbours edgeless rows columns) b s
+  passes-told ends at count shows graded = rw (graded, count, shows, at, ends)

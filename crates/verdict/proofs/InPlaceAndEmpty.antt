@@ -9,7 +9,7 @@ use native.Mathlib.Nat.{not-suc-le-zero, le-of-suc-le-suc}
 use native.Mathlib.Numerals.{add-one}
 use native.Mathlib.Omega.{arith}
 use lib.Dec.{eqb}
-use lib.ListN.{length, getD, take, drop, set, replicate}
+use lib.ListN.{length, getD, take, drop, set}
 use lib.Seq.{set-getD, take-all, length-take-le}
 use borrow.Author.Tests.{ne-eqb}
 use Rattle.lists.specs.Lists.{has, empty}
@@ -48,11 +48,6 @@ module _ (g : ℕ → ℕ) where
   pub from-last : (l : List ℕ) (i : ℕ) → length l ≤ i → fromOn g i l ≡ l
   unfolding fromOn
   from-last l i h = rw (drop-none l i h, take-all i l h) (append-nil l)
-
--- the same value in each place
-pub map-constant : (x : ℕ) (l : List ℕ) → map (λ (_ : ℕ). x) l ≡ replicate (length l) x
-map-constant x [] = refl
-map-constant x (y ∷ l) = ap (λ (k : List ℕ). x ∷ k) (map-constant x l)
 
 -- ---- empty
 

@@ -52,8 +52,7 @@ pub record NoContradiction (near : ℕ → List ℕ) (p : List ℕ) : Type 0 whe
   pub by-subtraction : subtraction (frontier near p) .contradiction ≡ false
   pub by-enumeration : enumerated (frontier near p) .contradiction ≡ false
 
-module _ (edgeless : Bool) (rows columns row column : ℕ) (b lent : List ℕ) (tests : boardTested edgeless rows columns row column b lent ≡ Accepted)
-    (safe : cellOf b (startCell columns row column) ≢ 255) where
+module _ (edgeless : Bool) (rows columns row column : ℕ) (b lent : List ℕ) (tests : boardTested edgeless rows columns row column b lent ≡ Accepted) where
   pub no-rule-refuses : {p : List ℕ}
       → OnTheWay (neighbours edgeless rows columns) b (threeRules (neighbours edgeless rows columns)) (startCell columns row column) p
       → NoContradiction (neighbours edgeless rows columns) p
@@ -61,8 +60,9 @@ module _ (edgeless : Bool) (rows columns row column : ℕ) (b lent : List ℕ) (
       let near = neighbours edgeless rows columns in
       let once = neighbours-nodup edgeless rows columns in
       let few = neighbours-few edgeless rows columns in
+      let accepted = accepted-board edgeless rows columns row column b lent tests in
       let fit = own-on-the-way near b (threeRules near) (startCell columns row column) (tested-accepted edgeless rows columns row column b lent tests)
-      (accepted-board edgeless rows columns row column b lent tests .start-within) safe (board-rules-sound edgeless rows columns b) way in
+      (accepted .start-within) (accepted .start-safe) (board-rules-sound edgeless rows columns b) way in
       record {
         by-direct = direct-sound-at near once few p .no-contradiction (own b) fit;
         by-subtraction = subtraction-sound-at near once few p .no-contradiction (own b) fit;

@@ -1,13 +1,12 @@
--- The verdict as a caller sees it (SPECIFICATION 4.2 and 9): refusals 1 to 5; a start on a mine is judged
--- no, with nothing opened; else the passes over the three rules, and the picture of the position that they end with. A no has the grade 4. Assumes nothing.
+-- The verdict as a caller sees it (SPECIFICATION 4.2 and 9): refusals 1 to 5 and 13; else the passes over the three rules from the start's cell, which is safe, and the
+-- picture of the position that they end with. A no has the grade 4. Assumes nothing.
 use mathlib.Core.Path.{_≡_}
-use mathlib.Core.Bool.{Bool, false, cond}
+use mathlib.Core.Bool.{Bool, cond}
 use mathlib.Core.List.{List, [], _∷_}
 use Prim.Native.Nat.{ℕ}
 use lib.Dec.{eqb}
-use lib.ListN.{length, getD, replicate}
+use lib.ListN.{length, getD}
 use Rattle.lists.specs.Lists.{bit}
-use Rattle.grid.specs.Cells.{cellOf}
 use Rattle.grid.specs.Window.{neighbours}
 use Rattle.refusals.specs.declared.Tested.{Tested}
 use Rattle.refusals.specs.declared.Tested.the-variants.{Accepted, Refused as TestRefused}
@@ -59,9 +58,9 @@ verdictSeen a shown = record { answer = a; shown = shown }
 abbrev pub endSeen : Ending → VerdictSeen
 endSeen e = verdictSeen (Judged (e .yes) (opened (e .position)) (boardGrade (e .yes) (e .grade)) (e .rounds)) (picture (e .position))
 
--- the verdict from the start's cell
-unfoldable pub judgedFrom : (ℕ → List ℕ) → List ℕ → ℕ → VerdictSeen
-judgedFrom near b s = cond (eqb (cellOf b s) 255) (verdictSeen (Judged false 0 (boardGrade false 0) 0) (replicate (length b) 10)) (endSeen (judge near b (threeRules near) s))
+-- the verdict from a safe cell, the start's
+abbrev pub judgedFrom : (ℕ → List ℕ) → List ℕ → ℕ → VerdictSeen
+judgedFrom near b s = endSeen (judge near b (threeRules near) s)
 
 -- the tests first; a refusal leaves the picture as it was
 abbrev pub verdictAfterTests : Tested → VerdictSeen → List ℕ → VerdictSeen
@@ -72,6 +71,6 @@ unfoldable pub isSolvable : Bool → ℕ → ℕ → ℕ → ℕ → List ℕ �
 isSolvable edgeless rows columns row column b shown =
     verdictAfterTests (boardTested edgeless rows columns row column b (length shown ∷ [])) (judgedFrom (neighbours edgeless rows columns) b (startCell columns row column)) shown
 
--- demand 3 of an answer that isn't a refusal
+-- demand 3 of an answer that has its four values, as every answer but a refusal has
 abbrev pub MeetsDemand3 : (ℕ → List ℕ) → List ℕ → ℕ → Verdict → List ℕ → Type 0
-MeetsDemand3 near b s v shown = (verdictNumber v ≡ 0) × Demand3 near b s (verdictYes v) (verdictOpened v) shown
+MeetsDemand3 near b s v shown = (length (verdictValues v) ≡ 4) × Demand3 near b s (verdictYes v) (verdictOpened v) shown

@@ -11,7 +11,7 @@ use refusals::test_board;
 ghost use mathlib.Core.Path.{_≡_};
 ghost use mathlib.Core.Logic.{_≢_};
 ghost use mathlib.Core.List.{[], _∷_};
-ghost use Prim.Native.Nat.{_*_, _<_};
+ghost use Prim.Native.Nat.{_<_};
 ghost use lib.ListN.{length, replicate};
 ghost use Rattle.grid.specs.Cells.{cellOf};
 ghost use Rattle.grid.specs.Window.{neighbours, Board};
@@ -25,15 +25,6 @@ ghost use Rattle.verdict.specs.Verdict.{boardGrade, verdictSeen, judgedF
 pub enum Verdict {
     Refused(Refusal),
     Judged(bool, usize, usize, usize),
-}
-
-// Every cell closed.
-fn close_all(position: &mut [u8])
-    ensures { λ _. ⌜ now (position .exit) ≡ replicate (length (now (position .entry))) 10 ⌝ }
-{
-    for i in 0..position.len() {
-        position[i] = 10;
-    }
 }
 
 // Makes 10 of what is not open, counts what is, and shows both.
@@ -60,7 +51,8 @@ fn board_grade(yes: bool, strongest: usize) -> usize
     if yes { strongest } else { 4 }
 }
 
-// The verdict of an accepted board from its start's cell. The position after the start stands in `first`, and the passes work in `position`.
+// The verdict of an accepted board from its start's cell, which is safe. The position after the start stands in `first`, which is lent with every cell closed, and the
+// passes work in `position`.
 fn judge_from(
     edgeless: bool,
     rows: usize,
@@ -73,21 +65,16 @@ fn judge_from(
 ) -> Verdict
     requires { ⌜ Board (now cells) rows columns × Board (now first) rows columns × Board (now position) rows columns × Board (now picture) rows columns ⌝ }
     requires { ⌜ Accepted (neighbours edgeless rows columns) (now cells) ⌝ }
-    requires { ⌜ start < length (now cells) ⌝ }
+    requires { ⌜ (start < length (now cells)) × (cellOf (now cells) start ≢ 255) × (now first ≡ replicate (length (now cells)) 10) ⌝ }
     ensures { λ r. ⌜ verdictSeen r (now (picture .exit)) ≡ judgedFrom (neighbours edgeless rows columns) (now (cells .entry)) start ⌝ }
 {
-    close_all(first);
-    if cells[start] == 255 {
-        let opened = close_marks(first, picture);
-        return Verdict::Judged(false, opened, board_grade(false, 0), 0);
-    }
     let end = run_passes(edgeless, rows, columns, cells, start, first, position);
     let opened = close_marks(position, picture);
     let grade = board_grade(end.yes, end.grade);
     Verdict::Judged(end.yes, opened, grade, end.rounds)
 }
 
-// The same, with positions of its own.
+// The same, with positions of its own, where every cell is closed.
 fn judge(
     edgeless: bool,
     rows: usize,
@@ -98,7 +85,7 @@ fn judge(
 ) -> Verdict
     requires { ⌜ Board (now cells) rows columns × Board (now picture) rows columns ⌝ }
     requires { ⌜ Accepted (neighbours edgeless rows columns) (now cells) ⌝ }
-    requires { ⌜ start < length (now cells) ⌝ }
+    requires { ⌜ (start < length (now cells)) × (cellOf (now cells) start ≢ 255) ⌝ }
     ensures { λ r. ⌜ verdictSeen r (now (picture .exit)) ≡ judgedFrom (neighbours edgeless rows columns) (now (cells .entry)) start ⌝ }
 {
     let mut first = [10u8; 1024];
@@ -116,7 +103,7 @@ fn judge(
     )
 }
 
-// is_solvable: refusals 1 to 5, then the verdict.
+// is_solvable: refusals 1 to 5 and 13, then the verdict.
 pub fn is_solvable(
     edgeless: bool,
     rows: usize,
@@ -128,7 +115,6 @@ pub fn is_solvable(
 ) -> Verdict
     ensures { λ r. ⌜ verdictSeen r (now (picture .exit)) ≡ isSolvable edgeless rows columns «start_row» «start_column» (now (cells .entry)) (now (picture .entry)) ⌝ }
     ensures { λ r. ⌜ (boardTested edgeless rows columns «start_row» «start_column» (now (cells .entry)) (length (now (picture .entry)) ∷ []) ≡ TestAccepted
-        → cellOf (now (cells .entry)) (startCell columns «start_row» «start_column») ≢ 255
         → MeetsDemand3 (neighbours edgeless rows columns) (now (cells .entry)) (startCell columns «start_row» «start_column») r (now (picture .exit))) ⌝ }
 {
     let lent = [picture.len()];

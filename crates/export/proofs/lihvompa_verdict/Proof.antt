@@ -43,7 +43,7 @@ returns c =
     let told = c .before .before in
     let asked = told .before .before .before .before in (
       verdict-returned _ (asked .is-solvable .ensures .0) (told .verdict .given .1) (values-returned (c .refusal-number .ensures) (none-laid _)),
-      λ accepted safe room. refusal-never-meets (told .verdict .given .1) (asked .is-solvable .ensures .1 accepted safe),
+      λ accepted room. refusal-never-meets (told .verdict .given .1) (asked .is-solvable .ensures .1 accepted),
     )
 
 same-length-2 : tie.Need-same-length-2
@@ -64,7 +64,7 @@ returns-2 c =
     let stored = four-laid counts _ _ _ _ (rw (first .before .bit .ensures) at (first .put-count .ensures)) (second .put-count2 .ensures)
     (third .put-count3 .ensures) (fourth .put-count4 .ensures) in (
       verdict-returned counts (asked .is-solvable .ensures .0) (told .verdict2 .given .1) (values-returned refl stored),
-      λ accepted safe room. counted-demand-3 counts (told .verdict2 .given .1) (asked .is-solvable .ensures .1 accepted safe) stored room,
+      λ accepted room. counted-demand-3 counts (told .verdict2 .given .1) (asked .is-solvable .ensures .1 accepted) stored room,
     )
 
 pub lihvompa-verdict-spec : {M : Type 1} → statement M

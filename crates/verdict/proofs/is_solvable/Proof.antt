@@ -45,7 +45,7 @@ judge-requires c κs =
     let accepts = c .before .before in
     let accepted = facts accepts in (
       (accepted .board, record { sized = accepted .board .sized; whole = lent-length accepted 0 (omega arith) }),
-      (tested-accepted _ _ _ _ _ _ _ (tests accepts), rw (c .before .start-cell .ensures) (accepted .start-within)),
+      (tested-accepted _ _ _ _ _ _ _ (tests accepts), rw (c .before .start-cell .ensures) (accepted .start-within, accepted .start-safe)),
     )
 
 returns : tie.Need-returns
@@ -55,7 +55,7 @@ returns c =
     let a = tested .before .before .before .before .args in
     let refuses = sym (tested .test-board .ensures) ∙ told .1 in (
       tests-refuse _ _ _ _ _ _ (a .picture .now) (told .0 .0) refuses,
-      λ accepts _. refusal-demand-3 _ _ _ _ _ _ (a .picture .now) (told .0 .0) refuses accepts,
+      λ accepts. refusal-demand-3 _ _ _ _ _ _ (a .picture .now) (told .0 .0) refuses accepts,
     )
 
 same-length : tie.Need-same-length
@@ -70,7 +70,7 @@ returns-2 c =
     let seen = (rw (started .start-cell .ensures) at (judged .judge .ensures))
     ∙ sym (tests-accept _ _ _ _ _ _ (a .picture .now) (tests accepts)) in (
       seen,
-      λ accepted safe. answer-demand-3 _ _ _ _ _ _ (a .picture .now) accepted safe _ _ seen,
+      λ accepted. answer-demand-3 _ _ _ _ _ _ (a .picture .now) accepted _ _ seen,
     )
 
 pub is-solvable-spec : {M : Type 1} → statement M

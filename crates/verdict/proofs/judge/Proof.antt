@@ -1,7 +1,7 @@
--- `judge` meets its contract: a board has at most 1024 cells, so that its positions have room for them. Assumes nothing.
+-- `judge` meets its contract: a board has at most 1024 cells, so that its positions have room for them, and each is closed there. Assumes nothing.
 use mathlib.Core.Path.{sym}
 use borrow.Author.Needs.{needs}
-use Rattle.verdict.proofs.FromStart.{few, front-long, front-board}
+use Rattle.verdict.proofs.FromStart.{few, front-long, front-closed, front-board}
 use Rattle.verdict.proofs.judge.Statement.{statement}
 use Rattle.verdict.proofs.judge.Tie as tie
 
@@ -21,7 +21,7 @@ judge-from-requires : tie.Need-judge-from-requires
 judge-from-requires c κs =
     let s = c .before .before .before .before .before in
     let front = front-board (s .pre .0 .0) in
-    ((s .pre .0 .0, front, front, s .pre .0 .1), s .pre .1)
+    ((s .pre .0 .0, front, front, s .pre .0 .1), (s .pre .1 .0, (s .pre .1 .1 .0, s .pre .1 .1 .1, front-closed (s .pre .0 .0))))
 
 same-length : tie.Need-same-length
 same-length c = search needs
