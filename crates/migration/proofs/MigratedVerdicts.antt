@@ -1,5 +1,5 @@
--- What the judge says of a migrated input, record after record: of each record what it said of the stored one before 255,255 was retired, or a refusal by 4 at the latest where the retired
--- start had no 0 to mean; and from where no whole record stands on, what it says of the input as it is. Rests on `own-bytes` of the crate run. Assumes nothing.
+-- What the judge says of a migrated input, record after record: of each record what it said of the stored one before 255,255 was retired, but a refusal with 13 where it said no for a start on
+-- a mine, and a refusal by 4 at the latest where the retired start had no 0 to mean; and from where no whole record stands on, what it says of the input as it is. Rests on `own-bytes` of the crate run. Assumes nothing.
 use mathlib.Core.Path.{_≡_, sym, ap, _∙_}
 use mathlib.Core.Logic.{_⊎_}
 use mathlib.Core.Bool.{true, false}
@@ -26,7 +26,7 @@ use Rattle.migration.proofs.JudgedAsStored.{verdictOf, JudgedAs, judged
 
 -- the verdict v is what becomes of the verdict of a stored record
 pub record JudgedAfter (r : List ℕ) (v : Verdict) : Type 0 where
-  -- with a printed start, or with a 0, it is the verdict that it had
+  -- with a printed start, or with a 0, it is what becomes of the verdict that it had
   pub as-stored : (isOpen (getD r 4 0) (getD r 5 0) ≡ false) ⊎ (hasZero (cellsIn r) ≡ true) → JudgedAs r v
   -- with the retired start and no 0 it is a refusal, by 4 at the latest
   pub refused : isOpen (getD r 4 0) (getD r 5 0) ≡ true → hasZero (cellsIn r) ≡ false → (0 < verdictNumber v) × (verdictNumber v ≤ 4)

@@ -1,5 +1,5 @@
 -- Cited by no public contract. What a stored start meant before 255,255 was retired, for the law that a migrated record is judged as the stored one was: this is the only place where that meaning is kept. Test 4 let
--- 255,255 pass, a test 7 came last, that such a board has a 0, and the start's cell was its first 0. Assumes nothing.
+-- 255,255 pass, a test 7 came last, that such a board has a 0, and the start's cell was its first 0. A start on a mine was not refused: it was judged no. Assumes nothing.
 use mathlib.Core.Bool.{Bool, not, cond, _||_}
 use mathlib.Core.List.{List, [], _∷_}
 use Prim.Native.Nat.{ℕ}
