@@ -3,7 +3,7 @@ use mathlib.Core.Path.{_≡_, refl}
 use mathlib.Core.Bool.{true}
 use Rattle.lists.specs.Lists.{all, rotated}
 use Rattle.grid.specs.Window.{around, neighbours}
-use Rattle.refusals.specs.Tests.{sizeOk, lengthOk, roomOk, boardCellsOk, positionCellsOk, startOk, numbersOk, startCell, boardTested, positionTested, deductionTested, patternTested}
+use Rattle.refusals.specs.Tests.{sizeOk, lengthOk, roomOk, boardCellsOk, positionCellsOk, startOk, numbersOk, startCell, startSafe, boardTested, positionTested, deductionTested, patternTested}
 use Rattle.fitting.specs.Layouts.{fits, freeInEvery}
 use Rattle.fitting.specs.Solver.{ask}
 use Rattle.fitting.specs.Passes.{orElse, openCells, pass, allOpen, judge}
@@ -18,11 +18,11 @@ use Rattle.enumeration.specs.Enumeration.{safeCells, mineCells, enumerated}
 use Rattle.marks.specs.Written.{written}
 use Rattle.deductions.specs.Answers.{refusedAnswer, afterFound}
 use Rattle.tables.specs.Tables.{tableOf, blockAsked, calAllSolution}
-use Rattle.verdict.specs.Verdict.{judgedFrom, isSolvable}
+use Rattle.verdict.specs.Verdict.{isSolvable}
 use Rattle.patterns.specs.Shapes.{amongMines, framed, foundAt, foundAnywhere, foundInCorner, patternFound}
 use Rattle.patterns.specs.Answer.{unsolvableStructure}
 use Rattle.cases.specs.Table.{endsWith, holds, table}
 
 pub all-cases : all holds table ≡ true
-unfolding table holds endsWith around neighbours sizeOk lengthOk roomOk boardCellsOk positionCellsOk startOk numbersOk startCell boardTested positionTested deductionTested fits freeInEvery ask allOpen rotated sources blockOf frontier insideCells knownMines chunkMatrix chunkMatrixes sureMines sureSafe directLeft direct minusMines minusSafe minusLeft subtraction refusedAnswer written afterFound patternTested amongMines framed foundAt foundAnywhere foundInCorner patternFound unsolvableStructure firsts groups sizes groupsIn weighed solutions safeCells mineCells enumerated tableOf blockAsked calAllSolution orElse openCells pass judge judgedFrom isSolvable
+unfolding table holds endsWith around neighbours sizeOk lengthOk roomOk boardCellsOk positionCellsOk startOk numbersOk startCell startSafe boardTested positionTested deductionTested fits freeInEvery ask allOpen rotated sources blockOf frontier insideCells knownMines chunkMatrix chunkMatrixes sureMines sureSafe directLeft direct minusMines minusSafe minusLeft subtraction refusedAnswer written afterFound patternTested amongMines framed foundAt foundAnywhere foundInCorner patternFound unsolvableStructure firsts groups sizes groupsIn weighed solutions safeCells mineCells enumerated tableOf blockAsked calAllSolution orElse openCells pass judge isSolvable
 all-cases = refl

@@ -4,7 +4,7 @@ use mathlib.Core.List.{List, [], _∷_}
 use Prim.Native.Nat.{ℕ}
 use Rattle.lists.specs.Lists.{rotated}
 use Rattle.grid.specs.Window.{around, neighbours}
-use Rattle.refusals.specs.Tests.{sizeOk, lengthOk, roomOk, boardCellsOk, positionCellsOk, startOk, numbersOk, startCell, boardTested, positionTested, deductionTested}
+use Rattle.refusals.specs.Tests.{sizeOk, lengthOk, roomOk, boardCellsOk, positionCellsOk, startOk, numbersOk, startCell, startSafe, boardTested, positionTested, deductionTested}
 use Rattle.fitting.specs.Passes.{orElse, openCells, pass, allOpen, judge}
 use Rattle.sources.specs.Sources.{sources}
 use Rattle.frontier.specs.Frontier.{blockOf, frontier}
@@ -14,7 +14,7 @@ use Rattle.subtraction.specs.Minus.{minusMines, minusSafe, minusLeft, subtracti
 use Rattle.groups.specs.Groups.{firsts, groups, sizes, groupsIn}
 use Rattle.search.specs.Solutions.{weighed, solutions}
 use Rattle.enumeration.specs.Enumeration.{safeCells, mineCells, enumerated}
-use Rattle.verdict.specs.Verdict.{judgedFrom, isSolvable}
+use Rattle.verdict.specs.Verdict.{isSolvable}
 use Rattle.text.specs.Text.{decimal}
 use Rattle.records.specs.Records.{recordLength, recordOf}
 use Rattle.record_lines.specs.Answers.{verdictText, lineText, pictureSize, boardVerdict}
@@ -34,5 +34,5 @@ exampleOutput =
     ∷ 51 ∷ 32 ∷ 114 ∷ 101 ∷ 102 ∷ 117 ∷ 115 ∷ 101 ∷ 100 ∷ 32 ∷ 49 ∷ 10 ∷ []
 
 pub example-printed : printed exampleInput ≡ exampleOutput
-unfolding around neighbours sizeOk lengthOk roomOk boardCellsOk positionCellsOk startOk numbersOk startCell boardTested positionTested deductionTested allOpen rotated sources blockOf frontier chunkMatrix chunkMatrixes sureMines sureSafe directLeft direct minusMines minusSafe minusLeft subtraction firsts groups sizes groupsIn weighed solutions safeCells mineCells enumerated orElse openCells pass judge judgedFrom isSolvable recordLength recordOf pictureSize verdictText lineText boardVerdict decimal verdicts textFrom printed
+unfolding around neighbours sizeOk lengthOk roomOk boardCellsOk positionCellsOk startOk numbersOk startCell startSafe boardTested positionTested deductionTested allOpen rotated sources blockOf frontier chunkMatrix chunkMatrixes sureMines sureSafe directLeft direct minusMines minusSafe minusLeft subtraction firsts groups sizes groupsIn weighed solutions safeCells mineCells enumerated orElse openCells pass judge isSolvable recordLength recordOf pictureSize verdictText lineText boardVerdict decimal verdicts textFrom printed
 example-printed = refl

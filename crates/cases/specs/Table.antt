@@ -1,6 +1,6 @@
 -- Cited by no public contract. The small boards of SPECIFICATION 12: one table, each line with what is asked and what the answer must be. Boards are written
 -- cell by cell, row after row. Assumes nothing.
-use mathlib.Core.Bool.{Bool, true, false, cond, _&&_, Bool·beq}
+use mathlib.Core.Bool.{Bool, true, false, _&&_, Bool·beq}
 use mathlib.Core.List.{List, [], _∷_, _++_}
 use Prim.Native.Nat.{ℕ, _+_, _-_, _*_}
 use lib.Dec.{eqb}
@@ -173,8 +173,6 @@ table =
     -- the boards of the printed example: `255 1 0` from its 0, and `1 255 1`, where the direct rule finds the mine and then nothing
     ∷ judged 1 3 0 2 (255 ∷ 1 ∷ 0 ∷ []) true 2 0 0 (10 ∷ 1 ∷ 0 ∷ [])
     ∷ judged 1 3 0 0 (1 ∷ 255 ∷ 1 ∷ []) false 1 4 1 (1 ∷ 10 ∷ 10 ∷ [])
-    -- from its mine: no, nothing opened, grade 4
-    ∷ judged 1 3 0 1 (1 ∷ 255 ∷ 1 ∷ []) false 0 4 0 (10 ∷ 10 ∷ 10 ∷ [])
     -- Paper 2: the strongest rule is the direct one, subtraction, enumeration; judged yes, each board has the grade of its rule
     ∷ judged 3 3 0 0 (0 ∷ 0 ∷ 0 ∷ 1 ∷ 2 ∷ 2 ∷ 1 ∷ 255 ∷ 255 ∷ []) true 7 1 1 (0 ∷ 0 ∷ 0 ∷ 1 ∷ 2 ∷ 2 ∷ 1 ∷ 10 ∷ 10 ∷ [])
     ∷ judged 3 3 0 0 (0 ∷ 0 ∷ 0 ∷ 1 ∷ 1 ∷ 1 ∷ 1 ∷ 255 ∷ 1 ∷ []) true 8 2 1 (0 ∷ 0 ∷ 0 ∷ 1 ∷ 1 ∷ 1 ∷ 1 ∷ 10 ∷ 1 ∷ [])
@@ -191,6 +189,11 @@ table =
     -- a start in the row or the column past the last
     ∷ unjudged 1 3 1 0 (255 ∷ 1 ∷ 0 ∷ []) 4
     ∷ unjudged 1 3 0 3 (255 ∷ 1 ∷ 0 ∷ []) 4
+    -- Paper 9: a start on a mine is refused; 3 and 5 come before it
+    ∷ unjudged 1 1 0 0 (255 ∷ []) 13
+    ∷ unjudged 1 3 0 1 (1 ∷ 255 ∷ 1 ∷ []) 13
+    ∷ unjudged 1 3 0 1 (9 ∷ 255 ∷ 1 ∷ []) 3
+    ∷ unjudged 1 3 0 1 (1 ∷ 255 ∷ 0 ∷ []) 5
     -- 11. 32 rows accepted, 33 refusal 1
     ∷ board-tested 32 1 0 0 (replicate 32 0) 0
     ∷ board-tested 33 1 0 0 (replicate 33 0) 1
