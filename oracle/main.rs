@@ -59,6 +59,9 @@ fn judged(head: &[i64], cells: &[i64]) -> Result<Verdict, usize> {
     if !numbers_right(&board) {
         return Err(5);
     }
+    if board[row as usize][column as usize] == -1 {
+        return Err(13);
+    }
     Ok(verdict(&board, (row as usize, column as usize)))
 }
 
