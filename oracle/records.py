@@ -1,6 +1,6 @@
 """Random boards with a start for comparisons, from a seed, as records (SPECIFICATION 5.1) and as lines of numbers: sizes from 1 x 1 to 32 x 32, all densities,
-starts on safe cells, zeros and mines and the retired start 255,255, which is refused; boards with faults, one or several; every board of a size; damaged streams
-of records; and streams of stored records."""
+starts on safe cells and zeros, and two kinds that are refused, on mines and the retired start 255,255; boards with faults, one or several; every board of a size;
+damaged streams of records; and streams of stored records."""
 import itertools
 
 import positions
@@ -54,11 +54,19 @@ def judged(r, least=1):
     return kind, [rows, columns, *start], cells
 
 
+def start_on_board(r, least):
+    """A board with a start that is on it, now and then on a mine."""
+    while True:
+        kind, head, cells = judged(r, least)
+        if kind != 'retired start':
+            return kind, head, cells
+
+
 def safe_start(r, least):
     """A board with a start on a safe cell, mostly a zero."""
     while True:
-        kind, head, cells = judged(r, least)
-        if kind in ('start at a zero', 'start on a safe cell'):
+        kind, head, cells = start_on_board(r, least)
+        if kind != 'start on a mine':
             return kind, head, cells
 
 
