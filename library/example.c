@@ -74,6 +74,8 @@ static void be_refused(void)
     printf("33 rows: refusal %d\n", refusal);
     expect(refusal == LIHVOMPA_SIZE, "33 rows are refused");
     expect(lihvompa_verdict(1, 3, 255, 255, cells, 3, picture, 3, counts, 4) == LIHVOMPA_START, "a start of 255, 255 is off the board");
+    cells[0] = LIHVOMPA_MINE;
+    expect(lihvompa_verdict(1, 1, 0, 0, cells, 1, picture, 1, counts, 4) == LIHVOMPA_START_MINE, "a start on a mine is refused");
     expect(picture[0] == 7 && counts[0] == 7, "a refusal writes nothing");
 }
 

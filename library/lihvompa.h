@@ -17,7 +17,8 @@
 extern "C" {
 #endif
 
-/* What a call answers. Where several refusals apply, the lowest is given. No call answers 7, which belonged to a start that is retired. */
+/* What a call answers. Where several refusals apply, the lowest is given. No call answers 7, which belonged to a start that is retired, nor 10 and
+ * 11, which belong to records; there is no 12. */
 enum lihvompa_refusal {
     LIHVOMPA_ACCEPTED = 0,
     LIHVOMPA_SIZE = 1,          /* rows or columns are 0 or above 32; of lihvompa_pattern also below 3 */
@@ -27,7 +28,8 @@ enum lihvompa_refusal {
     LIHVOMPA_NUMBER = 5,        /* a safe cell's number isn't its count of neighbouring mines */
     LIHVOMPA_CONTRADICTION = 6, /* a deduction meets a contradiction */
     LIHVOMPA_BLOCK = 8,         /* the block asked for isn't below the block count */
-    LIHVOMPA_TABLE = 9          /* solutions * groups exceeds the lent table's length */
+    LIHVOMPA_TABLE = 9,         /* solutions * groups exceeds the lent table's length */
+    LIHVOMPA_START_MINE = 13    /* the start is a mine */
 };
 
 /* Cells. On a board: 0 to 8, the count of neighbouring mines, or a mine. In a position: 0 to 8 where the cell is open, or one of the other three. */
@@ -40,7 +42,7 @@ enum lihvompa_cell {
 
 /* The verdict on a board from a start. `picture`, rows * columns long, becomes what is open in the end: an open cell's number, else 10. Counts: 1 for yes or 0
  * for no; opened cells; grade, of a yes the strongest rule that found a cell (1 direct, 2 subtraction, 3 enumeration, 0 none), of a no 4; rounds, the passes
- * that found a cell. Refusals 1 to 5. A start of 255, 255, which once meant the first 0 in reading order, is off every board. */
+ * that found a cell. Refusals 1 to 5 and 13. A start of 255, 255, which once meant the first 0 in reading order, is off every board. */
 uint8_t lihvompa_verdict(size_t rows, size_t columns, size_t start_row, size_t start_column, const uint8_t *cells, size_t cells_length,
                          uint8_t *picture, size_t picture_length, uint64_t *counts, size_t counts_length);
 

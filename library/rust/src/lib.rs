@@ -33,6 +33,8 @@ pub enum Refusal {
     Block = 8,
     /// The table has more bytes than it has room for.
     Table = 9,
+    /// The start is a mine.
+    StartMine = 13,
 }
 
 impl fmt::Display for Refusal {
@@ -46,6 +48,7 @@ impl fmt::Display for Refusal {
             Refusal::Contradiction => "contradiction",
             Refusal::Block => "block",
             Refusal::Table => "table",
+            Refusal::StartMine => "start on a mine",
         })
     }
 }
@@ -149,12 +152,13 @@ fn answered<const N: usize>(number: u8, counts: [u64; N]) -> Result<[usize; N], 
         6 => Refusal::Contradiction,
         8 => Refusal::Block,
         9 => Refusal::Table,
+        13 => Refusal::StartMine,
         _ => unreachable!("no call answers {number}"),
     })
 }
 
-/// The verdict on a board from a start. A start on a mine is judged no, with nothing opened. A start of 255, 255, which once meant the first 0 in reading order,
-/// is off every board.
+/// The verdict on a board from a start. A start on a mine is refused, as the last test. A start of 255, 255, which once meant the first 0 in reading order, is off
+/// every board.
 pub fn verdict(rows: usize, columns: usize, start: (usize, usize), cells: &[u8]) -> Result<Verdict, Refusal> {
     let mut picture = vec![10; cells.len()];
     let mut counts = [0; 4];

@@ -113,10 +113,21 @@ fn boards_by_hand() {
 }
 
 #[test]
-fn a_start_on_a_mine_opens_nothing() {
-    let v = verdict(1, 3, (0, 0), &[255, 1, 0]).unwrap();
-    assert_eq!((v.yes, v.opened, v.grade, v.rounds), (false, 0, 4, 0));
-    assert_eq!(v.picture, [10, 10, 10]);
+fn a_start_on_a_mine_is_refused() {
+    assert_eq!(verdict(1, 1, (0, 0), &[255]), Err(Refusal::StartMine));
+    assert_eq!(verdict(1, 3, (0, 0), &[255, 1, 0]), Err(Refusal::StartMine));
+    // the start's cell is the one in its row and column, and not the other way round
+    let board = [1, 255, 1, 1, 1, 1];
+    assert_eq!(verdict(2, 3, (0, 1), &board), Err(Refusal::StartMine));
+    assert_eq!(judged(2, 3, (1, 0), &board), (false, 1, 4, 0));
+    // it is tested last; a start past the end of its row is off the board, though the cell of that number is a mine
+    assert_eq!(verdict(33, 1, (0, 0), &[255; 33]), Err(Refusal::Size));
+    assert_eq!(verdict(1, 3, (0, 0), &[255, 1]), Err(Refusal::Length));
+    assert_eq!(verdict(1, 3, (0, 0), &[255, 1, 10]), Err(Refusal::Cell));
+    assert_eq!(verdict(2, 3, (0, 3), &[255; 6]), Err(Refusal::Start));
+    assert_eq!(verdict(1, 3, (0, 0), &[255, 2, 0]), Err(Refusal::Number));
+    assert_eq!(Refusal::StartMine as u8, 13);
+    assert_eq!(Refusal::StartMine.to_string(), "start on a mine");
 }
 
 #[test]
