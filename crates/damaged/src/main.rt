@@ -34,5 +34,6 @@ fn main() {
     judge_file(b"refused_cell");
     judge_file(b"refused_start");
     judge_file(b"refused_number");
+    judge_file(b"refused_mine");
     judge_file(b"refused_open_start");
 }
