@@ -18,7 +18,7 @@ extern "C" {
 #endif
 
 /* What a call answers. Where several refusals apply, the lowest is given. No call answers 7, which belonged to a start that is retired, nor 10 and
- * 11, which belong to records; there is no 12. */
+ * 11, which are of records. */
 enum lihvompa_refusal {
     LIHVOMPA_ACCEPTED = 0,
     LIHVOMPA_SIZE = 1,          /* rows or columns are 0 or above 32; of lihvompa_pattern also below 3 */
