@@ -22,7 +22,8 @@ use Rattle.blocks.proofs.Ends.{endsOf}
 use Rattle.blocks.proofs.Between.{slots-eight}
 use Rattle.text.specs.Text.{decimal, Written}
 use Rattle.text.proofs.Writing.{written-within, written-both}
-use Rattle.show.specs.Blocks.{nextNumber, numbersIn, numbersText, remainderText, equationIn, equationText, blockIn, blockText, blocksText, Inside}
+use Rattle.show.specs.Blocks.{numbersIn, numbersText, remainderText, equationIn, equationText, blockIn, blockText, blocksText, Inside}
+use Rattle.show.specs.Cells.{markedText}
 
 -- ---- numbers between two places
 
@@ -31,9 +32,13 @@ module _ (l : List ℕ) (from to : ℕ) where
   unfolding numbersText
   numbers-none h = rw (range-none from to h)
 
-  pub numbers-some : from < to → numbersText (numbersIn l from to) ≡ decimal (getD l from 0) ++ joined (map nextNumber (numbersIn l (from + 1) to))
+  pub numbers-some : from < to → numbersText (numbersIn l from to) ≡ decimal (getD l from 0) ++ joined (map (markedText 44) (numbersIn l (from + 1) to))
   unfolding numbersText
   numbers-some h = rw (range-more from to h)
+
+-- all of them
+pub numbers-all : (l : List ℕ) → numbersIn l 0 (length l) ≡ l
+numbers-all l = let e : length l - 0 ≡ length l = omega arith in rw e (read-all l 0)
 
 -- ---- remainders
 
@@ -54,9 +59,7 @@ listed-fits slots e list h = rw h (omega (arith, slots-eight slots e, length-pad
 
 -- read back
 listed-numbers : (l : List ℕ) → numbersIn (listed l .cells) 0 (listed l .len) ≡ l
-listed-numbers l =
-    let e : length l - 0 ≡ length l = omega arith in
-    ap (λ (n : ℕ). map (λ (i : ℕ). getD (pad 8 0 l) i 0) (range 0 n)) e ∙ simp pad-read (read-all l 0)
+listed-numbers l = simp pad-read (numbers-all l)
 
 ends-within : {A B : Type 0} (f : B → List A) (n : ℕ) (bs : List B) (k : ℕ) → getD (endsFrom n (map (λ (b : B). length (f b)) bs)) k 0 ≤ n + length (joined (map f bs))
 ends-within f n [] k = omega arith

@@ -11,17 +11,14 @@ use Rattle.lists.specs.Lists.{range, joined}
 use Rattle.text.specs.Text.{decimal}
 use Rattle.blocks.specs.Blocks.{BlockEquation, Block}
 use Rattle.blocks.specs.BlockSets.{slotCells, partAt}
+use Rattle.show.specs.Cells.{markedText}
 
 -- ---- the text
-
--- a number with a comma before it
-abbrev pub nextNumber : ℕ → List ℕ
-nextNumber x = 44 ∷ decimal x
 
 -- the numbers of a list with commas between them; `-` for none
 unfoldable pub numbersText : List ℕ → List ℕ
 numbersText [] = 45 ∷ []
-numbersText (x ∷ l) = decimal x ++ joined (map nextNumber l)
+numbersText (x ∷ l) = decimal x ++ joined (map (markedText 44) l)
 
 -- the remainder that `rest` stands for, which is 8 less
 unfoldable pub remainderText : ℕ → List ℕ

@@ -1,5 +1,5 @@
-// Answers as lines of text: block sets, positions and refusals, written into a lent buffer. A struct's arrays are copied into locals before they are lent, since a
-// field cannot be lent beside another. specs/ says what the text of each thing is.
+// Answers as lines of text: block sets, positions, the rounds in which their cells were opened, and refusals, written into a lent buffer. A struct's arrays are copied into
+// locals before they are lent, since a field cannot be lent beside another. specs/ says what the text of each thing is.
 use blocks::BlockSet;
 use blocks::begin_at;
 use blocks::slots_at;
@@ -11,39 +11,39 @@ use text::put_byte;
 use text::put_bytes;
 use text::put_number;
 ghost use mathlib.Core.Path.{_≡_};
-ghost use mathlib.Core.List.{_∷_, map};
+ghost use mathlib.Core.List.{map};
 ghost use Prim.Native.Nat.{_-_, _≤_, _<_};
 ghost use lib.ListN.{length};
 ghost use Rattle.lists.specs.Lists.{range, joined};
 ghost use Rattle.refusals.specs.Refusals.{refusalNumber};
-ghost use Rattle.text.specs.Text.{decimal, Written};
+ghost use Rattle.text.specs.Text.{Written};
 ghost use Rattle.blocks.specs.BlockSets.{blocksOf, Whole};
-ghost use Rattle.show.specs.Blocks.{nextNumber, numbersIn, numbersText, remainderText, equationIn, equationText, blockIn, blockText, blocksText, Inside};
-ghost use Rattle.show.specs.Cells.{cellsText};
+ghost use Rattle.show.specs.Blocks.{numbersIn, numbersText, remainderText, equationIn, equationText, blockIn, blockText, blocksText, Inside};
+ghost use Rattle.show.specs.Cells.{markedText, cellsText};
 ghost use Rattle.show.specs.Refusals.{refusedText};
 
 // A byte and a number behind it.
 fn put_marked(out: &mut [u8], at: usize, mark: u8, number: usize) -> usize
     requires { ⌜ at ≤ length (now out) ⌝ }
-    ensures { λ r. ⌜ Written (now (out .entry)) at (mark ∷ decimal number) (now (out .exit)) r ⌝ }
+    ensures { λ r. ⌜ Written (now (out .entry)) at (markedText mark number) (now (out .exit)) r ⌝ }
 {
     let k = put_byte(out, at, mark);
     put_number(out, k, number)
 }
 
-// The numbers of an array from one place up to another, with a comma before each.
-fn put_more(out: &mut [u8], at: usize, numbers: &[u16], from: usize, to: usize) -> usize
+// The numbers of an array from one place up to another, with the byte `mark` before each.
+fn put_more(out: &mut [u8], at: usize, mark: u8, numbers: &[u16], from: usize, to: usize) -> usize
     requires { ⌜ (at ≤ length (now out)) × (to ≤ length (now numbers)) ⌝ }
-    ensures { λ r. ⌜ Written (now (out .entry)) at (joined (map nextNumber (numbersIn (now (numbers .entry)) from to))) (now (out .exit)) r ⌝ }
+    ensures { λ r. ⌜ Written (now (out .entry)) at (joined (map (markedText mark) (numbersIn (now (numbers .entry)) from to))) (now (out .exit)) r ⌝ }
 {
     let mut k = at;
     for i in from..to {
-        k = put_marked(out, k, 44, wide(numbers[i]));
+        k = put_marked(out, k, mark, wide(numbers[i]));
     }
     k
 }
 
-// The same with commas between them.
+// The same with commas between them, and a dash for none.
 pub fn put_numbers(out: &mut [u8], at: usize, numbers: &[u16], from: usize, to: usize) -> usize
     requires { ⌜ (at ≤ length (now out)) × (to ≤ length (now numbers)) ⌝ }
     ensures { λ r. ⌜ Written (now (out .entry)) at (numbersText (numbersIn (now (numbers .entry)) from to)) (now (out .exit)) r ⌝ }
@@ -51,7 +51,7 @@ pub fn put_numbers(out: &mut [u8], at: usize, numbers: &[u16], from: usize, to: 
     if from < to {
         let k = put_number(out, at, wide(numbers[from]));
         let second = from + 1;
-        return put_more(out, k, numbers, second, to);
+        return put_more(out, k, 44, numbers, second, to);
     }
     put_byte(out, at, 45)
 }
@@ -186,6 +186,14 @@ pub fn put_cells(out: &mut [u8], at: usize, cells: &[u8]) -> usize
         k = put_marked(out, k, 32, wide_byte(cells[i]));
     }
     k
+}
+
+// The rounds in which a position's cells were opened, a space before each.
+pub fn put_rounds(out: &mut [u8], at: usize, rounds: &[u16]) -> usize
+    requires { ⌜ at ≤ length (now out) ⌝ }
+    ensures { λ r. ⌜ Written (now (out .entry)) at (cellsText (now (rounds .entry))) (now (out .exit)) r ⌝ }
+{
+    put_more(out, at, 32, rounds, 0, rounds.len())
 }
 
 // `refused 6`, from the front.

@@ -5,12 +5,12 @@ use lib.ListN.{length, getD}
 use borrow.Author.Needs.{needs}
 use Rattle.lists.proofs.Joined.{joined-places}
 use Rattle.text.proofs.Writing.{written-length, written-within, WrittenUpTo, up-to-none, up-to-next, up-to-last}
-use Rattle.show.specs.Cells.{cellText, cellsText}
+use Rattle.show.specs.Cells.{markedText, cellsText}
 use Rattle.show.proofs.put_cells.Statement.{statement}
 use Rattle.show.proofs.put_cells.Tie as tie
 
 abbrev Inv-loop : tie.InvT-loop
-Inv-loop out₀ at cells k₀ i₀ i-end out k i = WrittenUpTo (λ j. cellText (getD cells j 0)) 0 (length cells) out₀ at i out k
+Inv-loop out₀ at cells k₀ i₀ i-end out k i = WrittenUpTo (λ j. markedText 32 (getD cells j 0)) 0 (length cells) out₀ at i out k
 
 abbrev μ-loop : tie.MeasureT-loop
 μ-loop out₀ at cells k₀ i₀ i-end out k i = length cells - i
@@ -43,7 +43,7 @@ same-length c = written-length (c .before .loop .inv .written)
 
 returns : tie.Need-returns Inv-loop μ-loop
 unfolding cellsText
-returns c = up-to-last (c .loop-test .left) (joined-places cellText (c .before .before .before .before .args .cells .now)) (c .before .loop .inv)
+returns c = up-to-last (c .loop-test .left) (joined-places (markedText 32) (c .before .before .before .before .args .cells .now)) (c .before .loop .inv)
 
 pub put-cells-spec : {M : Type 1} → statement M
 put-cells-spec =

@@ -1,4 +1,4 @@
--- `show::put_more` meets its contract. The loop's invariant: the numbers up to place i are written, a comma before each. The measure is what is left up to the last place.
+-- `show::put_more` meets its contract. The loop's invariant: the numbers up to place i are written, the mark before each. The measure is what is left up to the last place.
 -- It rests on the laws of a loop that writes, of the crate text. Assumes nothing.
 use Prim.Native.Nat.{_-_}
 use lib.ListN.{getD}
@@ -6,15 +6,15 @@ use borrow.Author.Needs.{needs}
 use Rattle.lists.specs.Lists.{range}
 use Rattle.lists.proofs.Joined.{joined-map-map}
 use Rattle.text.proofs.Writing.{written-length, written-within, WrittenUpTo, up-to-none, up-to-next, up-to-last}
-use Rattle.show.specs.Blocks.{nextNumber}
+use Rattle.show.specs.Cells.{markedText}
 use Rattle.show.proofs.put_more.Statement.{statement}
 use Rattle.show.proofs.put_more.Tie as tie
 
 abbrev Inv-loop : tie.InvT-loop
-Inv-loop out₀ at numbers from to k₀ i₀ out k i = WrittenUpTo (λ j. nextNumber (getD numbers j 0)) from to out₀ at i out k
+Inv-loop out₀ at mark numbers from to k₀ i₀ out k i = WrittenUpTo (λ j. markedText mark (getD numbers j 0)) from to out₀ at i out k
 
 abbrev μ-loop : tie.MeasureT-loop
-μ-loop out₀ at numbers from to k₀ i₀ out k i = to - i
+μ-loop out₀ at mark numbers from to k₀ i₀ out k i = to - i
 
 loop-holds : tie.Need-loop-holds Inv-loop μ-loop
 loop-holds c = up-to-none (c .before .before .pre .0)
@@ -48,7 +48,7 @@ same-length c = written-length (c .before .loop .inv .written)
 returns : tie.Need-returns Inv-loop μ-loop
 returns c =
     let a = c .before .before .before .before .args in
-    up-to-last (c .loop-test .left) (joined-map-map nextNumber (λ j. getD (a .numbers .now) j 0) (range (a .from) (a .to - a .from))) (c .before .loop .inv)
+    up-to-last (c .loop-test .left) (joined-map-map (markedText (a .mark)) (λ j. getD (a .numbers .now) j 0) (range (a .from) (a .to - a .from))) (c .before .loop .inv)
 
 pub put-more-spec : {M : Type 1} → statement M
 put-more-spec =
