@@ -3,7 +3,7 @@
 -- is written and of two lists of tests, one after the other. Assumes nothing.
 use mathlib.Core.Path.{_≡_, refl, sym, ap, _∙_}
 use mathlib.Core.Logic.{_⊎_, inl, inr, _≢_}
-use mathlib.Core.Bool.{Bool, true, false, not, cond, _||_, or-false}
+use mathlib.Core.Bool.{Bool, true, false, not, cond, _&&_, _||_, or-false, and-self-left}
 use mathlib.Core.List.{List, [], _∷_, _++_}
 use Prim.Native.Nat.{ℕ, _≤_, _<_}
 use native.Mathlib.Omega.{arith}
@@ -34,14 +34,14 @@ use Rattle.migration.proofs.MigratedRecords.{changed-open, changed-zero
 
 -- ---- earlier tests and a later one
 
-module _ (seen : VerdictSeen) (shown : List ℕ) where
+module _ (seen : VerdictSeen) (shown openedIn : List ℕ) where
   -- a refusal by the earlier tests is the answer's
-  earlier-refuse : (earlier later : Tested) → testedNumber earlier ≢ 0 → verdictNumber (verdictAfterTests (thenTested earlier later) seen shown .answer) ≡ testedNumber earlier
+  earlier-refuse : (earlier later : Tested) → testedNumber earlier ≢ 0 → verdictNumber (verdictAfterTests (thenTested earlier later) seen shown openedIn .answer) ≡ testedNumber earlier
   earlier-refuse Accepted later some = absurd (some refl)
   earlier-refuse (Refused r) later some = refl
 
   -- where they accept, the later one answers
-  earlier-accept : (earlier later : Tested) → testedNumber earlier ≡ 0 → verdictAfterTests (thenTested earlier later) seen shown .answer ≡ verdictAfterTests later seen shown .answer
+  earlier-accept : (earlier later : Tested) → testedNumber earlier ≡ 0 → verdictAfterTests (thenTested earlier later) seen shown openedIn .answer ≡ verdictAfterTests later seen shown openedIn .answer
   earlier-accept Accepted later none = refl
   earlier-accept (Refused r) later none = refusal-numbered r none
 
@@ -71,10 +71,13 @@ four-at-most false length cell start number off = (omega arith, omega arith)
 
 -- ---- a board
 
--- its tests 1 to 5, by the length of the picture that is lent and by what the test of the start answers
+-- its tests 1 to 5, by what the tests of the lengths and of the start answer
+abbrev testsWith : ℕ → ℕ → List ℕ → Bool → Bool → List Test
+testsWith rows columns b lengths start = fiveTests (sizeOk 1 rows columns) lengths (boardCellsOk b) start (numbersOk (neighbours flat rows columns) b)
+
+-- lent a picture of this length
 abbrev testsBy : ℕ → ℕ → List ℕ → ℕ → Bool → List Test
-testsBy rows columns b picture start =
-    fiveTests (sizeOk 1 rows columns) (all (lengthOk rows columns) (length b ∷ picture ∷ [])) (boardCellsOk b) start (numbersOk (neighbours flat rows columns) b)
+testsBy rows columns b picture start = testsWith rows columns b (all (lengthOk rows columns) (length b ∷ picture ∷ [])) start
 
 abbrev numberBy : ℕ → ℕ → List ℕ → ℕ → Bool → ℕ
 numberBy rows columns b picture start = testedNumber (tested (testsBy rows columns b picture start))
@@ -83,13 +86,17 @@ module _ (rows columns row column : ℕ) (b : List ℕ) where
   abbrev picture : ℕ
   picture = pictureSize rows columns
 
+  -- the picture and the rounds that are lent
+  abbrev zeros : List ℕ
+  zeros = replicate picture 0
+
   -- the verdict from the start's cell
   abbrev judgedHere : VerdictSeen
   judgedHere = judgedFrom (neighbours flat rows columns) b (startCell columns row column)
 
   -- what is answered after tests
   abbrev after : Tested → Verdict
-  after t = verdictAfterTests t judgedHere (replicate picture 0) .answer
+  after t = verdictAfterTests t judgedHere zeros zeros .answer
 
   -- what tests 1 to 5 answer, and then 13
   abbrev earlier : Tested
@@ -98,17 +105,21 @@ module _ (rows columns row column : ℕ) (b : List ℕ) where
   abbrev later : Tested
   later = cond (startSafe columns row column b) Accepted (Refused StartMine)
 
+  -- a slice of rounds as long as the picture passes where the picture does
+  lengths-told : all (lengthOk rows columns) (length b ∷ length zeros ∷ length zeros ∷ []) ≡ all (lengthOk rows columns) (length b ∷ picture ∷ [])
+  lengths-told = rw (length-replicate {A = ℕ} picture 0) (ap (λ (t : Bool). lengthOk rows columns (length b) && t) (and-self-left (lengthOk rows columns picture) true))
+
   verdict-after : boardVerdict Plain rows columns row column b ≡ after (thenTested earlier later)
   unfolding boardVerdict isSolvable boardTested
   verdict-after =
-      ap (λ (n : ℕ). after (tested (testsBy rows columns b n (startOk rows columns row column) ++ (test (startSafe columns row column b) StartMine ∷ [])))) (length-replicate {A = ℕ} picture 0)
+      ap (λ (t : Bool). after (tested (testsWith rows columns b t (startOk rows columns row column) ++ (test (startSafe columns row column b) StartMine ∷ [])))) lengths-told
       ∙ ap after (tested-append (testsBy rows columns b picture (startOk rows columns row column)) (test (startSafe columns row column b) StartMine ∷ []) refl)
 
   refused-by-five : testedNumber earlier ≢ 0 → verdictNumber (boardVerdict Plain rows columns row column b) ≡ testedNumber earlier
-  refused-by-five some = ap verdictNumber verdict-after ∙ earlier-refuse judgedHere (replicate picture 0) earlier later some
+  refused-by-five some = ap verdictNumber verdict-after ∙ earlier-refuse judgedHere zeros zeros earlier later some
 
   told-by-the-last : testedNumber earlier ≡ 0 → boardVerdict Plain rows columns row column b ≡ after later
-  told-by-the-last none = verdict-after ∙ earlier-accept judgedHere (replicate picture 0) earlier later none
+  told-by-the-last none = verdict-after ∙ earlier-accept judgedHere zeros zeros earlier later none
 
   -- as it was stored: with a printed start, or with a 0, test 7 passes
   stored-number : (not (isOpen row column) || hasZero b) ≡ true

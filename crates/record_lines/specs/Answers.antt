@@ -29,11 +29,12 @@ verdictText v =
 unfoldable pub lineText : ℕ → Verdict → List ℕ
 lineText number v = decimal number ++ (32 ∷ (verdictText v ++ (10 ∷ [])))
 
--- how many bytes of picture a board is lent: one for each cell, and none for a board that test 1 refuses
+-- how many cells of picture, and of rounds, a board is lent: all that it has, and none for a board that test 1 refuses
 unfoldable pub pictureSize : ℕ → ℕ → ℕ
 pictureSize rows columns = cond (leb rows 32 && leb columns 32) (rows * columns) 0
 
--- the verdict of a record's board, by its mark: a plain board is judged, lent a picture of zeros
+-- the verdict of a record's board, by its mark: a plain board is judged, lent zeros for the picture and for the rounds of its cells
 unfoldable pub boardVerdict : BoardMark → ℕ → ℕ → ℕ → ℕ → List ℕ → Verdict
-boardVerdict Plain rows columns row column cells = isSolvable flat rows columns row column cells (replicate (pictureSize rows columns) 0) .answer
+boardVerdict Plain rows columns row column cells =
+    isSolvable flat rows columns row column cells (replicate (pictureSize rows columns) 0) (replicate (pictureSize rows columns) 0) .answer
 boardVerdict Unknown rows columns row column cells = Refused Mark

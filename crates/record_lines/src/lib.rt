@@ -58,7 +58,7 @@ pub fn put_line(out: &mut [u8], at: usize, number: usize, verdict: Verdict) -> u
     put_byte(out, end, 10)
 }
 
-// How many bytes of picture a board is lent: one for each cell, and none for a board that test 1 refuses.
+// How many cells of picture, and of rounds, a board is lent: all that it has, and none for a board that test 1 refuses.
 fn picture_size(rows: usize, columns: usize) -> usize
     ensures { λ r. ⌜ r ≡ pictureSize rows columns ⌝ }
     ensures { λ r. ⌜ r ≤ 1024 ⌝ }
@@ -79,7 +79,7 @@ fn zeros() -> [u8; 1024]
     [0; 1024]
 }
 
-// The verdict of a record's board, by its mark. The picture is lent for the time of the call.
+// The verdict of a record's board, by its mark. Picture and rounds are lent for the time of the call.
 pub fn board_verdict(
     mark: BoardMark,
     rows: usize,
@@ -92,6 +92,7 @@ pub fn board_verdict(
 {
     let size = picture_size(rows, columns);
     let mut picture = zeros();
+    let mut opened_in = [0u16; 1024];
     match mark {
         BoardMark::Plain => is_solvable(
             FLAT,
@@ -101,6 +102,7 @@ pub fn board_verdict(
             column,
             cells,
             &mut picture[..size],
+            &mut opened_in[..size],
         ),
         BoardMark::Unknown => Verdict::Refused(Refusal::Mark),
     }

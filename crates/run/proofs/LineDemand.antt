@@ -16,17 +16,20 @@ use Rattle.verdict.proofs.Bounds.{GradeTells, refusal-tells, grade-tells}
 use Rattle.record_lines.specs.Answers.{pictureSize, boardVerdict}
 
 module _ (rows columns row column : ℕ) (b : List ℕ) where
-  pub line-demand-3 : boardTested flat rows columns row column b (pictureSize rows columns ∷ []) ≡ Accepted
+  -- the picture and the rounds that are lent
+  abbrev zeros : List ℕ
+  zeros = replicate (pictureSize rows columns) 0
+
+  pub line-demand-3 : boardTested flat rows columns row column b (pictureSize rows columns ∷ pictureSize rows columns ∷ []) ≡ Accepted
       → (shown : List ℕ) × MeetsDemand3 (neighbours flat rows columns) b (startCell columns row column) (boardVerdict Plain rows columns row column b) shown
   unfolding boardVerdict
   line-demand-3 tests = (
-    isSolvable flat rows columns row column b (replicate (pictureSize rows columns) 0) .shown,
-    answer-demand-3 flat rows columns row column b (replicate (pictureSize rows columns) 0)
-        (rw (length-replicate {A = ℕ} (pictureSize rows columns) 0) tests) _ _ refl,
+    isSolvable flat rows columns row column b zeros zeros .shown,
+    answer-demand-3 flat rows columns row column b zeros zeros (rw (length-replicate {A = ℕ} (pictureSize rows columns) 0) tests) _ _ _ refl,
   )
 
   -- the grade is 4 exactly where the line says no
   pub line-grade : (mark : BoardMark) → GradeTells (boardVerdict mark rows columns row column b)
   unfolding boardVerdict
-  line-grade Plain = grade-tells flat rows columns row column b (replicate (pictureSize rows columns) 0)
+  line-grade Plain = grade-tells flat rows columns row column b zeros zeros
   line-grade Unknown = refusal-tells Mark

@@ -87,36 +87,39 @@ module _ (near : ℕ → List ℕ) (b : List ℕ) (s : ℕ) where
 
 -- ---- of the call
 
-module _ (edgeless : Bool) (rows columns row column : ℕ) (b shown : List ℕ) where
+module _ (edgeless : Bool) (rows columns row column : ℕ) (b shown openedIn : List ℕ) where
+  abbrev lent : List ℕ
+  lent = length shown ∷ length openedIn ∷ []
+
   abbrev tests : Tested
-  tests = boardTested edgeless rows columns row column b (length shown ∷ [])
+  tests = boardTested edgeless rows columns row column b lent
 
   abbrev judged : VerdictSeen
   judged = judgedFrom (neighbours edgeless rows columns) b (startCell columns row column)
 
   -- what the grade tells
-  pub grade-tells : GradeTells (isSolvable edgeless rows columns row column b shown .answer)
+  pub grade-tells : GradeTells (isSolvable edgeless rows columns row column b shown openedIn .answer)
   unfolding isSolvable
   grade-tells = go tests
     where
-      go : (t : Tested) → GradeTells (verdictAfterTests t judged shown .answer)
+      go : (t : Tested) → GradeTells (verdictAfterTests t judged shown openedIn .answer)
       go Accepted = judged-grade (neighbours edgeless rows columns) b (startCell columns row column)
       go (TestRefused x) = refusal-tells x
 
   -- rounds never exceed the cells
-  pub rounds-at-most-cells : verdictRounds (isSolvable edgeless rows columns row column b shown .answer) ≤ length b
+  pub rounds-at-most-cells : verdictRounds (isSolvable edgeless rows columns row column b shown openedIn .answer) ≤ length b
   unfolding isSolvable
   rounds-at-most-cells = go tests refl
     where
-      go : (t : Tested) → tests ≡ t → verdictRounds (verdictAfterTests t judged shown .answer) ≤ length b
+      go : (t : Tested) → tests ≡ t → verdictRounds (verdictAfterTests t judged shown openedIn .answer) ≤ length b
       go Accepted e =
-          let accepted = accepted-board edgeless rows columns row column b (length shown ∷ []) e in
+          let accepted = accepted-board edgeless rows columns row column b lent e in
           rounds-cells (neighbours edgeless rows columns) b (threeRules (neighbours edgeless rows columns)) (startCell columns row column)
-          (tested-accepted edgeless rows columns row column b (length shown ∷ []) e) (accepted .start-within) (accepted .start-safe) (board-rules-sound edgeless rows columns b)
+          (tested-accepted edgeless rows columns row column b lent e) (accepted .start-within) (accepted .start-safe) (board-rules-sound edgeless rows columns b)
       go (TestRefused x) e = omega arith
 
   -- so of an answer that is the definition's
-  pub answer-bounds : (r : Verdict) (after : List ℕ) → verdictSeen r after ≡ isSolvable edgeless rows columns row column b shown → (verdictRounds r ≤ length b) × GradeTells r
-  answer-bounds r after e =
-      let same : r ≡ isSolvable edgeless rows columns row column b shown .answer = ap (λ (w : VerdictSeen). w .answer) e in
+  pub answer-bounds : (r : Verdict) (after rounds : List ℕ) → verdictSeen r after rounds ≡ isSolvable edgeless rows columns row column b shown openedIn → (verdictRounds r ≤ length b) × GradeTells r
+  answer-bounds r after rounds e =
+      let same : r ≡ isSolvable edgeless rows columns row column b shown openedIn .answer = ap (λ (w : VerdictSeen). w .answer) e in
       (rw same rounds-at-most-cells, rw same grade-tells)

@@ -29,39 +29,43 @@ pub refusal-never-meets : {P : Type 0} {near : ℕ → List ℕ} {b : List ℕ} 
     → MeetsDemand3 near b s v shown → P
 refusal-never-meets is (has-values, _) = let none : _≡_ {A = ℕ} 0 4 = rw is at has-values in absurd (omega arith)
 
-module _ (edgeless : Bool) (rows columns row column : ℕ) (b shown : List ℕ) where
+module _ (edgeless : Bool) (rows columns row column : ℕ) (b shown openedIn : List ℕ) where
   -- the start's cell
   abbrev start : ℕ
   start = startCell columns row column
 
+  -- the lengths of the lent slices
+  abbrev lent : List ℕ
+  lent = length shown ∷ length openedIn ∷ []
+
   abbrev passed : Ending
   passed = judge (neighbours edgeless rows columns) b (threeRules (neighbours edgeless rows columns)) start
 
-  -- the tests refuse: the answer is their refusal, and the picture stays as it was
-  module _ (x : Refusal) (tests : boardTested edgeless rows columns row column b (length shown ∷ []) ≡ TestRefused x) where
-    pub tests-refuse : verdictSeen (Refused x) shown ≡ isSolvable edgeless rows columns row column b shown
+  -- the tests refuse: the answer is their refusal, and both slices stay as they were
+  module _ (x : Refusal) (tests : boardTested edgeless rows columns row column b lent ≡ TestRefused x) where
+    pub tests-refuse : verdictSeen (Refused x) shown openedIn ≡ isSolvable edgeless rows columns row column b shown openedIn
     unfolding isSolvable
     tests-refuse = rw tests
 
     -- demand 3 is asked of accepted boards only
-    pub refusal-demand-3 : {P : Type 0} → boardTested edgeless rows columns row column b (length shown ∷ []) ≡ Accepted → P
-    refusal-demand-3 accepted = not-both (boardTested edgeless rows columns row column b (length shown ∷ [])) x accepted tests
+    pub refusal-demand-3 : {P : Type 0} → boardTested edgeless rows columns row column b lent ≡ Accepted → P
+    refusal-demand-3 accepted = not-both (boardTested edgeless rows columns row column b lent) x accepted tests
 
-  module _ (tests : boardTested edgeless rows columns row column b (length shown ∷ []) ≡ Accepted) where
+  module _ (tests : boardTested edgeless rows columns row column b lent ≡ Accepted) where
     -- the tests accept: the verdict is that from the start's cell, the end of the passes
-    pub tests-accept : isSolvable edgeless rows columns row column b shown ≡ judgedFrom (neighbours edgeless rows columns) b (startCell columns row column)
+    pub tests-accept : isSolvable edgeless rows columns row column b shown openedIn ≡ judgedFrom (neighbours edgeless rows columns) b (startCell columns row column)
     unfolding isSolvable
     tests-accept = rw tests
 
     passes-demand-3 : Demand3 (neighbours edgeless rows columns) b start (passed .yes) (opened (passed .position)) (picture (passed .position))
     passes-demand-3 =
-        let accepted = accepted-board edgeless rows columns row column b (length shown ∷ []) tests in
-        judge-demand-3 (neighbours edgeless rows columns) b (threeRules (neighbours edgeless rows columns)) start (tested-accepted edgeless rows columns row column b (length shown ∷ []) tests)
+        let accepted = accepted-board edgeless rows columns row column b lent tests in
+        judge-demand-3 (neighbours edgeless rows columns) b (threeRules (neighbours edgeless rows columns)) start (tested-accepted edgeless rows columns row column b lent tests)
         (accepted .start-within) (accepted .start-safe) (board-rules-sound edgeless rows columns b) (board-rules-complete edgeless rows columns b)
 
     -- demand 3 of an answer that is the definition's
-    pub answer-demand-3 : (r : Verdict) (after : List ℕ) → verdictSeen r after ≡ isSolvable edgeless rows columns row column b shown
+    pub answer-demand-3 : (r : Verdict) (after rounds : List ℕ) → verdictSeen r after rounds ≡ isSolvable edgeless rows columns row column b shown openedIn
         → MeetsDemand3 (neighbours edgeless rows columns) b (startCell columns row column) r after
-    answer-demand-3 r after e =
+    answer-demand-3 r after rounds e =
         let told = e ∙ tests-accept in
         rw (ap (λ (w : VerdictSeen). w .answer) told, ap (λ (w : VerdictSeen). w .shown) told) (refl, rw (bit-is-one (passed .yes)) passes-demand-3)

@@ -10,4 +10,5 @@ pub mod FromStart
 pub mod Admitted
 pub mod DemandThree
 pub mod Bounds
+pub mod RoundsTold
 pub mod NoContradictions

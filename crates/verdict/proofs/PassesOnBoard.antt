@@ -1,9 +1,10 @@
 -- The passes of the three rules on a board of rows and columns, underway, as the code makes them: it marks and opens the cells of the struct that the rules
--- gave, in the struct's order, and that leads on as the definition's pass does. Rests on Underway and FoundCells. Assumes nothing.
+-- gave, in the struct's order, and that leads on as the definition's pass does; what was opened is given the pass's number. Rests on Underway and FoundCells.
+-- Assumes nothing.
 use mathlib.Core.Path.{_≡_, _∙_}
 use mathlib.Core.Logic.{_≢_}
 use mathlib.Core.Bool.{Bool, false}
-use mathlib.Core.List.{List}
+use mathlib.Core.List.{List, [], _∷_, _++_}
 use Prim.Native.Nat.{ℕ, _+_, _*_, _<_, max}
 use native.Mathlib.Omega.{arith}
 use lib.ListN.{length}
@@ -11,25 +12,31 @@ use Rattle.grid.specs.Window.{neighbours, Board}
 use Rattle.grid.proofs.Places.{few-cells}
 use Rattle.grid.proofs.Neighbours.{neighbours-few}
 use Rattle.fitting.specs.Boards.{Accepted}
-use Rattle.fitting.specs.Passes.{openCells, allOpen, ending, passes}
+use Rattle.fitting.specs.Passes.{openCells, allOpen, ending}
 use Rattle.fitting.proofs.Own.{fit-length}
 use Rattle.marks.specs.CellLists.{listIn}
 use Rattle.marks.specs.Written.{written}
 use Rattle.marks.proofs.WrittenCells.{written-length}
 use Rattle.enumeration.specs.ThreeRules.{threeRules}
 use Rattle.enumeration.proofs.BoardRules.{board-rules-sound}
+use Rattle.rounds.specs.GivenRounds.{roundGiven}
+use Rattle.rounds.proofs.GivenRounds.{rounds-on-board}
 use Rattle.verdict.specs.Findings.{Finds}
 use Rattle.verdict.specs.declared.finding.Finding.{Finding}
 use Rattle.verdict.proofs.SamePass.{marks-written}
 use Rattle.verdict.proofs.FoundCells.{finds-nothing, finds-cell, finds-pass}
-use Rattle.verdict.proofs.Underway.{Underway, ends-stuck, underway-next}
+use Rattle.verdict.proofs.Underway.{Underway, Ends, ends-stuck, underway-next}
+
+-- a position keeps its cells when mines are marked
+pub marked-board : {rows columns : ℕ} {p q : List ℕ} (ms : List ℕ) → Board p rows columns → q ≡ written 11 ms p → Board q rows columns
+marked-board {p = p} ms board e = record { sized = board .sized; whole = rw e (written-length 11 ms p ∙ board .whole) }
 
 -- k passes of the three rules lead from p₀ to p
-abbrev pub OnBoard : Bool → ℕ → ℕ → List ℕ → List ℕ → ℕ → List ℕ → ℕ → ℕ → Type 0
+abbrev pub OnBoard : Bool → ℕ → ℕ → List ℕ → List ℕ → ℕ → List ℕ → ℕ → ℕ → List ℕ → Type 0
 OnBoard edgeless rows columns b = Underway (neighbours edgeless rows columns) b (threeRules (neighbours edgeless rows columns)) (length b)
 
 module _ (edgeless : Bool) {rows columns : ℕ} {b : List ℕ} (board : Board b rows columns) {p₀ : List ℕ} {k : ℕ} {p : List ℕ} {grade rounds : ℕ}
-    (u : OnBoard edgeless rows columns b p₀ k p grade rounds) where
+    {openedIn : List ℕ} (u : OnBoard edgeless rows columns b p₀ k p grade rounds openedIn) where
   -- the position has the board's cells
   pub same-cells : length p ≡ length b
   same-cells = fit-length (neighbours edgeless rows columns) b p (u .own-fits)
@@ -37,9 +44,9 @@ module _ (edgeless : Bool) {rows columns : ℕ} {b : List ℕ} (board : Board b 
   pub position-board : Board p rows columns
   position-board = record { sized = board .sized; whole = same-cells ∙ board .whole }
 
-  -- and has them when mines are marked
-  pub marked-board : (q ms : List ℕ) → q ≡ written 11 ms p → Board q rows columns
-  marked-board q ms e = record { sized = board .sized; whole = rw e (written-length 11 ms p ∙ position-board .whole) }
+  -- and so has the slice of their rounds
+  pub rounds-long : length openedIn ≡ rows * columns
+  rounds-long = rounds-on-board board (u .earlier ++ (p ∷ [])) (u .rounds-so-far)
 
   -- there are at most 1024 cells, and no more rounds than passes
   pub few-rounds : k < length b → rounds < 1024
@@ -49,16 +56,16 @@ module _ (edgeless : Bool) {rows columns : ℕ} {b : List ℕ} (board : Board b 
   module _ (before : k < length b) (shut : allOpen b p ≡ false) (r : Finding) (found : Finds (rows * columns) (threeRules (neighbours edgeless rows columns) p) r) where
     -- the rules found nothing
     pub found-nothing : r .safe .count + r .mines .count ≡ 0
-        → passes (neighbours edgeless rows columns) b (threeRules (neighbours edgeless rows columns)) (length b) p₀ 0 0 ≡ ending false p grade rounds
+        → Ends (neighbours edgeless rows columns) b (threeRules (neighbours edgeless rows columns)) (length b) p₀ (ending false p grade rounds) openedIn
     found-nothing none = ends-stuck (neighbours edgeless rows columns) b (threeRules (neighbours edgeless rows columns)) u before shut (finds-nothing found none)
 
     -- the mines that they found are marked and the safe cells opened
     pub found-cells : Accepted (neighbours edgeless rows columns) b → r .safe .count + r .mines .count ≢ 0
-        → (marked : List ℕ) → marked ≡ written 11 (listIn (r .mines)) p
-        → (q : List ℕ) → q ≡ openCells (neighbours edgeless rows columns) b marked (listIn (r .safe))
-        → (g : ℕ) → g ≡ max grade (r .grade) → OnBoard edgeless rows columns b p₀ (k + 1) q g (rounds + 1)
-    found-cells ok some marked marks q opens g greatest =
+        → (q : List ℕ) → q ≡ openCells (neighbours edgeless rows columns) b (written 11 (listIn (r .mines)) p) (listIn (r .safe))
+        → (g : ℕ) → g ≡ max grade (r .grade) → (given : List ℕ) → given ≡ roundGiven (rounds + 1) q openedIn
+        → OnBoard edgeless rows columns b p₀ (k + 1) q g (rounds + 1) given
+    found-cells ok some q opens g greatest given gives =
         let near = neighbours edgeless rows columns in
-        underway-next near b (threeRules near) u before shut ok (board-rules-sound edgeless rows columns b) (finds-cell found some)
-        q (opens ∙ rw (marks, marks-written p (listIn (r .mines))) (finds-pass found near b ok (λ c _. neighbours-few edgeless rows columns c) p same-cells))
-        g (greatest ∙ rw (found .same-grade))
+        underway-next near b (threeRules near) u before shut ok (board-rules-sound edgeless rows columns b) (finds-cell found some) (few-rounds before)
+        q (opens ∙ rw (marks-written p (listIn (r .mines))) (finds-pass found near b ok (λ c _. neighbours-few edgeless rows columns c) p same-cells))
+        g (greatest ∙ rw (found .same-grade)) given gives

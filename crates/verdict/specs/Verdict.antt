@@ -1,5 +1,5 @@
--- The verdict as a caller sees it (SPECIFICATION 4.2 and 9): refusals 1 to 5 and 13; else the passes over the three rules from the start's cell, which is safe, and the
--- picture of the position that they end with. A no has the grade 4. Assumes nothing.
+-- The verdict as a caller sees it (SPECIFICATION 4.2 and 9): refusals 1 to 5 and 13; else the passes over the three rules from the start's cell, which is safe, the
+-- picture of the position that they end with, and the round in which each cell was opened. A no has the grade 4. Assumes nothing.
 use mathlib.Core.Path.{_≡_}
 use mathlib.Core.Bool.{Bool, cond}
 use mathlib.Core.List.{List, [], _∷_}
@@ -13,6 +13,7 @@ use Rattle.refusals.specs.declared.Tested.the-variants.{Accepted, Refused as Te
 use Rattle.refusals.specs.Refusals.{refusalNumber}
 use Rattle.refusals.specs.Tests.{boardTested, startCell}
 use Rattle.fitting.specs.Passes.{Ending, judge}
+use Rattle.rounds.specs.Rounds.{judgeRounds}
 use Rattle.fitting.specs.Demand.{Demand3, picture, opened}
 use Rattle.enumeration.specs.ThreeRules.{threeRules}
 use Rattle.verdict.specs.declared.Verdict.{Verdict}
@@ -46,30 +47,32 @@ verdictRounds v = getD (verdictValues v) 3 0
 abbrev pub boardGrade : Bool → ℕ → ℕ
 boardGrade answer strongest = cond answer strongest 4
 
--- what the caller sees after the call: the answer, and the lent picture
+-- what the caller sees after the call: the answer, the lent picture, and the lent slice for the rounds in which the cells were opened
 pub record VerdictSeen : Type 0 where
   pub answer : Verdict
   pub shown : List ℕ
+  pub openedIn : List ℕ
 
-abbrev pub verdictSeen : Verdict → List ℕ → VerdictSeen
-verdictSeen a shown = record { answer = a; shown = shown }
+abbrev pub verdictSeen : Verdict → List ℕ → List ℕ → VerdictSeen
+verdictSeen a shown openedIn = record { answer = a; shown = shown; openedIn = openedIn }
 
--- what the end of the passes is to the caller
-abbrev pub endSeen : Ending → VerdictSeen
-endSeen e = verdictSeen (Judged (e .yes) (opened (e .position)) (boardGrade (e .yes) (e .grade)) (e .rounds)) (picture (e .position))
+-- what the end of the passes is to the caller, with the rounds of the cells
+abbrev pub endSeen : Ending → List ℕ → VerdictSeen
+endSeen e openedIn = verdictSeen (Judged (e .yes) (opened (e .position)) (boardGrade (e .yes) (e .grade)) (e .rounds)) (picture (e .position)) openedIn
 
 -- the verdict from a safe cell, the start's
 abbrev pub judgedFrom : (ℕ → List ℕ) → List ℕ → ℕ → VerdictSeen
-judgedFrom near b s = endSeen (judge near b (threeRules near) s)
+judgedFrom near b s = endSeen (judge near b (threeRules near) s) (judgeRounds near b (threeRules near) s)
 
--- the tests first; a refusal leaves the picture as it was
-abbrev pub verdictAfterTests : Tested → VerdictSeen → List ℕ → VerdictSeen
-verdictAfterTests Accepted w shown = w
-verdictAfterTests (TestRefused r) w shown = verdictSeen (Refused r) shown
+-- the tests first; a refusal leaves both slices as they were
+abbrev pub verdictAfterTests : Tested → VerdictSeen → List ℕ → List ℕ → VerdictSeen
+verdictAfterTests Accepted w shown openedIn = w
+verdictAfterTests (TestRefused r) w shown openedIn = verdictSeen (Refused r) shown openedIn
 
-unfoldable pub isSolvable : Bool → ℕ → ℕ → ℕ → ℕ → List ℕ → List ℕ → VerdictSeen
-isSolvable edgeless rows columns row column b shown =
-    verdictAfterTests (boardTested edgeless rows columns row column b (length shown ∷ [])) (judgedFrom (neighbours edgeless rows columns) b (startCell columns row column)) shown
+unfoldable pub isSolvable : Bool → ℕ → ℕ → ℕ → ℕ → List ℕ → List ℕ → List ℕ → VerdictSeen
+isSolvable edgeless rows columns row column b shown openedIn =
+    verdictAfterTests (boardTested edgeless rows columns row column b (length shown ∷ length openedIn ∷ []))
+    (judgedFrom (neighbours edgeless rows columns) b (startCell columns row column)) shown openedIn
 
 -- demand 3 of an answer that has its four values, as every answer but a refusal has
 abbrev pub MeetsDemand3 : (ℕ → List ℕ) → List ℕ → ℕ → Verdict → List ℕ → Type 0

@@ -1,5 +1,6 @@
 // The verdict: is_solvable with refresh_board and IsVictory, in the passes of SPECIFICATION 9.1. The passes work on a position of their own; at the end
-// it goes to the lent picture, and what is not open is 10 there. specs/Verdict.antt says what a caller sees; demand 3 is part of the contract.
+// it goes to the lent picture, and what is not open is 10 there. The rounds in which cells were opened are kept in the other lent slice. specs/Verdict.antt says
+// what a caller sees; demand 3 is part of the contract.
 pub mod finding;
 pub mod passes;
 
@@ -8,10 +9,11 @@ use refusals::Refusal;
 use refusals::Tested;
 use refusals::start_cell;
 use refusals::test_board;
+use rounds::no_rounds;
 ghost use mathlib.Core.Path.{_≡_};
 ghost use mathlib.Core.Logic.{_≢_};
 ghost use mathlib.Core.List.{[], _∷_};
-ghost use Prim.Native.Nat.{_<_};
+ghost use Prim.Native.Nat.{_*_, _<_};
 ghost use lib.ListN.{length, replicate};
 ghost use Rattle.grid.specs.Cells.{cellOf};
 ghost use Rattle.grid.specs.Window.{neighbours, Board};
@@ -19,6 +21,7 @@ ghost use Rattle.refusals.specs.declared.Tested.the-variants.{Accepted as TestA
 ghost use Rattle.refusals.specs.Tests.{boardTested, startCell};
 ghost use Rattle.fitting.specs.Boards.{Accepted};
 ghost use Rattle.fitting.specs.Demand.{picture as pictureOf, opened};
+ghost use Rattle.rounds.specs.Rounds.{roundsOf};
 ghost use Rattle.verdict.specs.Verdict.{boardGrade, verdictSeen, judgedFrom, isSolvable, MeetsDemand3};
 
 // What the verdict answers: a refusal, or yes or no, the opened cells, the grade and the rounds.
@@ -52,7 +55,7 @@ fn board_grade(yes: bool, strongest: usize) -> usize
 }
 
 // The verdict of an accepted board from its start's cell, which is safe. The position after the start stands in `first`, which is lent with every cell closed, and the
-// passes work in `position`.
+// passes work in `position`; no cell has a round when `opened_in` is lent.
 fn judge_from(
     edgeless: bool,
     rows: usize,
@@ -62,19 +65,30 @@ fn judge_from(
     first: &mut [u8],
     position: &mut [u8],
     picture: &mut [u8],
+    opened_in: &mut [u16],
 ) -> Verdict
     requires { ⌜ Board (now cells) rows columns × Board (now first) rows columns × Board (now position) rows columns × Board (now picture) rows columns ⌝ }
     requires { ⌜ Accepted (neighbours edgeless rows columns) (now cells) ⌝ }
     requires { ⌜ (start < length (now cells)) × (cellOf (now cells) start ≢ 255) × (now first ≡ replicate (length (now cells)) 10) ⌝ }
-    ensures { λ r. ⌜ verdictSeen r (now (picture .exit)) ≡ judgedFrom (neighbours edgeless rows columns) (now (cells .entry)) start ⌝ }
+    requires { ⌜ now «opened_in» ≡ roundsOf [] (length (now cells)) ⌝ }
+    ensures { λ r. ⌜ verdictSeen r (now (picture .exit)) (now («opened_in» .exit)) ≡ judgedFrom (neighbours edgeless rows columns) (now (cells .entry)) start ⌝ }
 {
-    let end = run_passes(edgeless, rows, columns, cells, start, first, position);
+    let end = run_passes(
+        edgeless,
+        rows,
+        columns,
+        cells,
+        start,
+        first,
+        position,
+        opened_in,
+    );
     let opened = close_marks(position, picture);
     let grade = board_grade(end.yes, end.grade);
     Verdict::Judged(end.yes, opened, grade, end.rounds)
 }
 
-// The same, with positions of its own, where every cell is closed.
+// The same, with positions of its own, where every cell is closed, and no round yet.
 fn judge(
     edgeless: bool,
     rows: usize,
@@ -82,15 +96,18 @@ fn judge(
     cells: &[u8],
     start: usize,
     picture: &mut [u8],
+    opened_in: &mut [u16],
 ) -> Verdict
     requires { ⌜ Board (now cells) rows columns × Board (now picture) rows columns ⌝ }
     requires { ⌜ Accepted (neighbours edgeless rows columns) (now cells) ⌝ }
     requires { ⌜ (start < length (now cells)) × (cellOf (now cells) start ≢ 255) ⌝ }
-    ensures { λ r. ⌜ verdictSeen r (now (picture .exit)) ≡ judgedFrom (neighbours edgeless rows columns) (now (cells .entry)) start ⌝ }
+    requires { ⌜ length (now «opened_in») ≡ rows * columns ⌝ }
+    ensures { λ r. ⌜ verdictSeen r (now (picture .exit)) (now («opened_in» .exit)) ≡ judgedFrom (neighbours edgeless rows columns) (now (cells .entry)) start ⌝ }
 {
     let mut first = [10u8; 1024];
     let mut position = [10u8; 1024];
     let n = cells.len();
+    no_rounds(opened_in);
     judge_from(
         edgeless,
         rows,
@@ -100,6 +117,7 @@ fn judge(
         &mut first[..n],
         &mut position[..n],
         picture,
+        opened_in,
     )
 }
 
@@ -112,12 +130,14 @@ pub fn is_solvable(
     start_column: usize,
     cells: &[u8],
     picture: &mut [u8],
+    opened_in: &mut [u16],
 ) -> Verdict
-    ensures { λ r. ⌜ verdictSeen r (now (picture .exit)) ≡ isSolvable edgeless rows columns «start_row» «start_column» (now (cells .entry)) (now (picture .entry)) ⌝ }
-    ensures { λ r. ⌜ (boardTested edgeless rows columns «start_row» «start_column» (now (cells .entry)) (length (now (picture .entry)) ∷ []) ≡ TestAccepted
+    ensures { λ r. ⌜ verdictSeen r (now (picture .exit)) (now («opened_in» .exit))
+        ≡ isSolvable edgeless rows columns «start_row» «start_column» (now (cells .entry)) (now (picture .entry)) (now («opened_in» .entry)) ⌝ }
+    ensures { λ r. ⌜ (boardTested edgeless rows columns «start_row» «start_column» (now (cells .entry)) (length (now (picture .entry)) ∷ length (now («opened_in» .entry)) ∷ []) ≡ TestAccepted
         → MeetsDemand3 (neighbours edgeless rows columns) (now (cells .entry)) (startCell columns «start_row» «start_column») r (now (picture .exit))) ⌝ }
 {
-    let lent = [picture.len()];
+    let lent = [picture.len(), opened_in.len()];
     match test_board(
         edgeless,
         rows,
@@ -130,7 +150,7 @@ pub fn is_solvable(
         Tested::Refused(refusal) => Verdict::Refused(refusal),
         Tested::Accepted => {
             let start = start_cell(rows, columns, start_row, start_column);
-            judge(edgeless, rows, columns, cells, start, picture)
+            judge(edgeless, rows, columns, cells, start, picture, opened_in)
         }
     }
 }

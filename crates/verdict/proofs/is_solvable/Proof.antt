@@ -25,16 +25,20 @@ enum-known-refusal c = search needs
 enum-told : tie.Need-enum-told
 enum-told c = search needs
 
+-- from where the tests accept back to the call
+abbrev called : tie.After-enum-told → tie.Start
+called c = c .before .before .before .before .before .before .before
+
 -- the tests accept
 tests : (c : tie.After-enum-told)
-    → (let a = c .before .before .before .before .before .before .args in
-    boardTested (a .edgeless) (a .rows) (a .columns) (a .start-row) (a .start-column) (a .cells .now) (length (a .picture .now) ∷ []) ≡ Accepted)
+    → (let a = called c .args in
+    boardTested (a .edgeless) (a .rows) (a .columns) (a .start-row) (a .start-column) (a .cells .now) (length (a .picture .now) ∷ length (a .opened-in .now) ∷ []) ≡ Accepted)
 tests c = sym (c .before .before .test-board .ensures) ∙ c .enum-told .given .1
 
 -- so this is known of the input
 facts : (c : tie.After-enum-told)
-    → (let a = c .before .before .before .before .before .before .args in
-    AcceptedBoard (a .edgeless) (a .rows) (a .columns) (a .start-row) (a .start-column) (a .cells .now) (length (a .picture .now) ∷ []))
+    → (let a = called c .args in
+    AcceptedBoard (a .edgeless) (a .rows) (a .columns) (a .start-row) (a .start-column) (a .cells .now) (length (a .picture .now) ∷ length (a .opened-in .now) ∷ []))
 facts c = accepted-board _ _ _ _ _ _ _ (tests c)
 
 start-cell-requires : tie.Need-start-cell-requires
@@ -42,35 +46,38 @@ start-cell-requires c κs = (facts c .board .sized, facts c .start)
 
 judge-requires : tie.Need-judge-requires
 judge-requires c κs =
-    let accepts = c .before .before in
+    let accepts = c .before .before .before in
     let accepted = facts accepts in (
       (accepted .board, record { sized = accepted .board .sized; whole = lent-length accepted 0 (omega arith) }),
-      (tested-accepted _ _ _ _ _ _ _ (tests accepts), rw (c .before .start-cell .ensures) (accepted .start-within, accepted .start-safe)),
+      (tested-accepted _ _ _ _ _ _ _ (tests accepts), (rw (c .before .before .start-cell .ensures) (accepted .start-within, accepted .start-safe), lent-length accepted 1 (omega arith))),
     )
 
 returns : tie.Need-returns
 returns c =
     let told = c .before .refusal .given in
     let tested = c .before .before .before in
-    let a = tested .before .before .before .before .args in
+    let a = tested .before .before .before .before .before .args in
     let refuses = sym (tested .test-board .ensures) ∙ told .1 in (
-      tests-refuse _ _ _ _ _ _ (a .picture .now) (told .0 .0) refuses,
-      λ accepts. refusal-demand-3 _ _ _ _ _ _ (a .picture .now) (told .0 .0) refuses accepts,
+      tests-refuse _ _ _ _ _ _ (a .picture .now) (a .opened-in .now) (told .0 .0) refuses,
+      λ accepts. refusal-demand-3 _ _ _ _ _ _ (a .picture .now) (a .opened-in .now) (told .0 .0) refuses accepts,
     )
 
 same-length : tie.Need-same-length
 same-length c = search needs
 
+same-length-2 : tie.Need-same-length-2
+same-length-2 c = search needs
+
 returns-2 : tie.Need-returns-2
 returns-2 c =
-    let judged = c .before .before in
-    let started = judged .before .before in
+    let judged = c .before .before .before .before in
+    let started = judged .before .before .before in
     let accepts = started .before in
-    let a = accepts .before .before .before .before .before .before .args in
+    let a = called accepts .args in
     let seen = (rw (started .start-cell .ensures) at (judged .judge .ensures))
-    ∙ sym (tests-accept _ _ _ _ _ _ (a .picture .now) (tests accepts)) in (
+    ∙ sym (tests-accept _ _ _ _ _ _ (a .picture .now) (a .opened-in .now) (tests accepts)) in (
       seen,
-      λ accepted. answer-demand-3 _ _ _ _ _ _ (a .picture .now) accepted _ _ seen,
+      λ accepted. answer-demand-3 _ _ _ _ _ _ (a .picture .now) (a .opened-in .now) accepted _ _ _ seen,
     )
 
 pub is-solvable-spec : {M : Type 1} → statement M
@@ -85,4 +92,5 @@ is-solvable-spec =
     judge-requires
     returns
     same-length
+    same-length-2
     returns-2)

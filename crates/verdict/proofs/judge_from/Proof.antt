@@ -23,12 +23,15 @@ same-length-2 c = search needs
 same-length-3 : tie.Need-same-length-3
 same-length-3 c = search needs
 
+same-length-4 : tie.Need-same-length-4
+same-length-4 c = search needs
+
 returns : tie.Need-returns
 returns c =
     let counted = c .before .before .before .before .before in
-    let ran = counted .before .before .before .before .before .before .before in
-    let s = ran .before .before .before .before .before .before .before in
-    passes-told _ (s .pre .0 .0) (s .args .start) (s .pre .1 .1 .0) (ran .run-passes .ensures .0) (ran .run-passes .ensures .1)
+    let ran = counted .before .before .before .before .before .before .before .before .before in
+    let s = ran .before .before .before .before .before .before .before .before .before in
+    passes-told _ (s .pre .0 .0) (s .args .start) (s .pre .1 .1 .0 .0) (ran .run-passes .ensures .0) (ran .run-passes .ensures .1 .0) (ran .run-passes .ensures .1 .1)
     (counted .close-marks .ensures .0) (counted .close-marks .ensures .1) (c .board-grade .ensures)
 
 pub judge-from-spec : {M : Type 1} → statement M
@@ -41,4 +44,5 @@ judge-from-spec =
     same-length
     same-length-2
     same-length-3
+    same-length-4
     returns)
