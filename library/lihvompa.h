@@ -22,7 +22,7 @@ extern "C" {
 enum lihvompa_refusal {
     LIHVOMPA_ACCEPTED = 0,
     LIHVOMPA_SIZE = 1,          /* rows or columns are 0 or above 32; of lihvompa_pattern also below 3 */
-    LIHVOMPA_LENGTH = 2,        /* a cell or picture slice isn't rows * columns long, or a deduction's list is shorter than that */
+    LIHVOMPA_LENGTH = 2,        /* a slice of cells, the picture or opened_in isn't rows * columns long, or a deduction's list is shorter than that */
     LIHVOMPA_CELL = 3,          /* a cell value isn't one named below */
     LIHVOMPA_START = 4,         /* the start is off the board */
     LIHVOMPA_NUMBER = 5,        /* a safe cell's number isn't its count of neighbouring mines */
@@ -40,11 +40,18 @@ enum lihvompa_cell {
     LIHVOMPA_MINE = 255
 };
 
-/* The verdict on a board from a start. `picture`, rows * columns long, becomes what is open in the end: an open cell's number, else 10. Counts: 1 for yes or 0
+/* Stands in a verdict's rounds for a cell that is closed. */
+enum lihvompa_round {
+    LIHVOMPA_NO_ROUND = 65535
+};
+
+/* The verdict on a board from a start. `picture`, rows * columns long, becomes what is open in the end: an open cell's number, else 10. `opened_in`, as long,
+ * receives the round in which each cell was opened: 0 for the start and what its zeros open, else the number of the pass, counted from 1, and 65535 for a cell
+ * that is closed in the end, as mines are. A pass that finds mines alone counts too, so there may be a number that no cell has. Counts: 1 for yes or 0
  * for no; opened cells; grade, of a yes the strongest rule that found a cell (1 direct, 2 subtraction, 3 enumeration, 0 none), of a no 4; rounds, the passes
  * that found a cell. Refusals 1 to 5 and 13. A start of 255, 255, which once meant the first 0 in reading order, is off every board. */
 uint8_t lihvompa_verdict(size_t rows, size_t columns, size_t start_row, size_t start_column, const uint8_t *cells, size_t cells_length,
-                         uint8_t *picture, size_t picture_length, uint64_t *counts, size_t counts_length);
+                         uint8_t *picture, size_t picture_length, uint16_t *opened_in, size_t opened_in_length, uint64_t *counts, size_t counts_length);
 
 /* Whether a board has a pattern of mines that leaves a guess. Counts: 1 where one is found, else 0. Only mines are looked at. Refusals 1 to 3. */
 uint8_t lihvompa_pattern(size_t rows, size_t columns, const uint8_t *cells, size_t cells_length, uint64_t *counts, size_t counts_length);

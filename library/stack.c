@@ -12,7 +12,7 @@
 enum { STACK = 8 << 20, FILL = 0xA5, SIDE = 32, CELLS = SIDE * SIDE };
 
 static uint8_t cells[CELLS], lent[CELLS];
-static uint16_t safe[CELLS], mines[CELLS];
+static uint16_t safe[CELLS], mines[CELLS], opened_in[CELLS];
 static uint64_t counts[4];
 static size_t start;
 static int call;
@@ -29,7 +29,7 @@ static void *run(void *unused)
     case 3: number = lihvompa_enumerate(SIDE, SIDE, lent, CELLS, safe, CELLS, mines, CELLS, counts, 4); break;
     case 4: number = lihvompa_table(SIDE, SIDE, cells, CELLS, 0, lent, CELLS, counts, 4); break;
     case 5: number = lihvompa_pattern(SIDE, SIDE, cells, CELLS, counts, 4); break;
-    case 6: number = lihvompa_verdict(SIDE, SIDE, start / SIDE, start % SIDE, cells, CELLS, lent, CELLS, counts, 4); break;
+    case 6: number = lihvompa_verdict(SIDE, SIDE, start / SIDE, start % SIDE, cells, CELLS, lent, CELLS, opened_in, CELLS, counts, 4); break;
     default: break;
     }
     return unused;

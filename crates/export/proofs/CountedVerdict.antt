@@ -1,5 +1,6 @@
 -- The verdict as C and Rust see it. Where there is room for two counts, demand 3 holds of them and of the picture, as is_solvable's contract has it of the
--- answer; where there is room for three, the third, the grade, is 4 exactly where the first says no. Assumes nothing.
+-- answer; where there is room for three, the third, the grade, is 4 exactly where the first says no; and where there is room for four, the rounds of the cells
+-- tell what they tell a caller in Rattle, beside the picture and the fourth. Assumes nothing.
 use mathlib.Core.Path.{_≡_, refl}
 use mathlib.Core.Logic.{_↔_}
 use mathlib.Core.Bool.{Bool, true, false}
@@ -11,14 +12,20 @@ use lib.ListN.{length, getD}
 use borrow.Author.Tests.{eqb-false}
 use Rattle.lists.specs.Lists.{bit}
 use Rattle.lists.proofs.Tests.{clash}
-use Rattle.grid.specs.Window.{flat}
+use Rattle.grid.specs.Window.{flat, neighbours}
+use Rattle.refusals.specs.declared.Tested.the-variants.{Accepted}
 use Rattle.refusals.specs.Refusals.{refusalNumber}
+use Rattle.refusals.specs.Tests.{boardTested, startCell}
 use Rattle.refusals.proofs.FirstFailure.{refusal-not-zero}
 use Rattle.fitting.specs.Demand.{Demand3}
+use Rattle.enumeration.specs.ThreeRules.{threeRules}
+use Rattle.rounds.proofs.Rounds.{RoundTells}
 use Rattle.verdict.specs.declared.Verdict.{Verdict}
 use Rattle.verdict.specs.declared.Verdict.the-variants.{Refused, Judged}
 use Rattle.verdict.specs.Verdict.{verdictNumber, verdictValues, isSolvable, MeetsDemand3}
 use Rattle.verdict.proofs.Bounds.{GradeTells, grade-tells}
+use Rattle.verdict.proofs.DemandThree.{answer-demand-3}
+use Rattle.verdict.proofs.RoundsTold.{answer-rounds}
 use Rattle.export.specs.Returned.{Returned, laid, verdictReturned}
 use Rattle.export.proofs.StoredCounts.{count-stored}
 
@@ -42,9 +49,23 @@ graded (Judged v n grade rounds) counts tells answered room =
     go true (there, back) = (λ e. clash true refl (there e), λ e. absurd (omega (arith, e)))
     go false (there, back) = (λ _. refl, λ _. back refl)
 
-pub counted-grade : (rows columns row column : ℕ) (b shown counts : List ℕ) (after : Returned)
-    → after ≡ verdictReturned (isSolvable flat rows columns row column b shown) counts → after .number ≡ 0 → 2 < length counts
+pub counted-grade : (rows columns row column : ℕ) (b shown openedIn counts : List ℕ) (after : Returned)
+    → after ≡ verdictReturned (isSolvable flat rows columns row column b shown openedIn) counts → after .number ≡ 0 → 2 < length counts
     → (getD (after .counts) 2 0 ≡ 4) ↔ (getD (after .counts) 0 0 ≡ 0)
 unfolding verdictReturned
-counted-grade rows columns row column b shown counts after is answered room =
-    rw is (graded (isSolvable flat rows columns row column b shown .answer) counts (grade-tells flat rows columns row column b shown) (rw is at answered) room)
+counted-grade rows columns row column b shown openedIn counts after is answered room =
+    rw is
+    (graded (isSolvable flat rows columns row column b shown openedIn .answer) counts (grade-tells flat rows columns row column b shown openedIn) (rw is at answered) room)
+
+-- what the round of a cell tells, in the second slice, beside the picture in the first and the fourth count; an accepted board has its four values
+pub counted-rounds : (rows columns row column : ℕ) (b shown openedIn counts : List ℕ) (after : Returned)
+    → after ≡ verdictReturned (isSolvable flat rows columns row column b shown openedIn) counts
+    → boardTested flat rows columns row column b (length shown ∷ length openedIn ∷ []) ≡ Accepted → 3 < length counts → (c : ℕ) → c < length b
+    → RoundTells (neighbours flat rows columns) b (threeRules (neighbours flat rows columns)) (startCell columns row column)
+    (getD (after .lent) 0 []) (getD (after .counts) 3 0) c (getD (getD (after .lent) 1 []) c 65535)
+unfolding verdictReturned
+counted-rounds rows columns row column b shown openedIn counts after is accepted room c on =
+    let seen = isSolvable flat rows columns row column b shown openedIn in
+    let four = answer-demand-3 flat rows columns row column b shown openedIn accepted (seen .answer) (seen .shown) (seen .openedIn) refl .0 in
+    rw (is, count-stored (verdictValues (seen .answer)) counts 3 (omega (arith, four)) room)
+    (answer-rounds flat rows columns row column b shown openedIn accepted (seen .answer) (seen .shown) (seen .openedIn) refl c on)

@@ -59,18 +59,18 @@ values-returned number is = rw (number, is)
 pub by-form : {A : Type 0} (f : A → Returned) {asked answer form : A} {w : Returned} → answer ≡ asked → answer ≡ form → w ≡ f form → w ≡ f asked
 by-form f is which e = e ∙ ap f (sym which ∙ is)
 
--- likewise of an answer with a lent slice
+-- likewise of an answer with lent slices
 pub table-returned : {asked : TableSeen} {answer form : TableAnswer} {rows : List ℕ} (counts : List ℕ) {w : Returned} → tableSeen answer rows ≡ asked
     → answer ≡ form → w ≡ returned (tableNumber form) (rows ∷ []) (laid (tableValues form) counts) → w ≡ tableReturned asked counts
 unfolding tableReturned
 table-returned {rows = rows} counts call which e =
     by-form (λ (v : TableSeen). tableReturned v counts) call (ap (λ (a : TableAnswer). tableSeen a rows) which) e
 
-pub verdict-returned : {asked : VerdictSeen} {answer form : Verdict} {shown : List ℕ} (counts : List ℕ) {w : Returned} → verdictSeen answer shown ≡ asked
-    → answer ≡ form → w ≡ returned (verdictNumber form) (shown ∷ []) (laid (verdictValues form) counts) → w ≡ verdictReturned asked counts
+pub verdict-returned : {asked : VerdictSeen} {answer form : Verdict} {shown openedIn : List ℕ} (counts : List ℕ) {w : Returned} → verdictSeen answer shown openedIn ≡ asked
+    → answer ≡ form → w ≡ returned (verdictNumber form) (shown ∷ openedIn ∷ []) (laid (verdictValues form) counts) → w ≡ verdictReturned asked counts
 unfolding verdictReturned
-verdict-returned {shown = shown} counts call which e =
-    by-form (λ (v : VerdictSeen). verdictReturned v counts) call (ap (λ (a : Verdict). verdictSeen a shown) which) e
+verdict-returned {shown = shown} {openedIn = openedIn} counts call which e =
+    by-form (λ (v : VerdictSeen). verdictReturned v counts) call (ap (λ (a : Verdict). verdictSeen a shown openedIn) which) e
 
 -- a rule's call: the counts of its answer, and the three slices
 pub deduction-returned : {w : Seen} {r : DeductionAnswer} {p s m : List ℕ} (counts : List ℕ) {after : List ℕ} {n : ℕ} → seen r p s m ≡ w

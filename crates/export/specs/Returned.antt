@@ -53,4 +53,4 @@ patternReturned a counts = returned (patternNumber a) [] (laid (patternValues a)
 
 -- the verdict: 1 for yes, opened cells, grade, rounds
 unfoldable pub verdictReturned : VerdictSeen → List ℕ → Returned
-verdictReturned w counts = returned (verdictNumber (w .answer)) (w .shown ∷ []) (laid (verdictValues (w .answer)) counts)
+verdictReturned w counts = returned (verdictNumber (w .answer)) (w .shown ∷ w .openedIn ∷ []) (laid (verdictValues (w .answer)) counts)

@@ -236,7 +236,8 @@ pub extern "C" fn lihvompa_pattern(
     }
 }
 
-// is_solvable. Counts: 1 for yes or 0 for no, opened cells, grade, rounds. A caller that lends room for the first two has demand 3 of them and of the picture.
+// is_solvable. Counts: 1 for yes or 0 for no, opened cells, grade, rounds. A caller that lends room for the first two has demand 3 of them and of the picture. The slice
+// of 16-bit numbers gets the round in which each cell was opened.
 #[no_mangle]
 pub extern "C" fn lihvompa_verdict(
     rows: usize,
@@ -245,16 +246,26 @@ pub extern "C" fn lihvompa_verdict(
     start_column: usize,
     cells: &[u8],
     picture: &mut [u8],
+    opened_in: &mut [u16],
     counts: &mut [u64],
 ) -> u8
-    ensures { λ r. ⌜ returned r (now (picture .exit) ∷ []) (now (counts .exit))
-        ≡ verdictReturned (isSolvable flat rows columns «start_row» «start_column» (now (cells .entry)) (now (picture .entry))) (now (counts .entry)) ⌝ }
-    ensures { λ r. ⌜ (boardTested flat rows columns «start_row» «start_column» (now (cells .entry)) (length (now (picture .entry)) ∷ []) ≡ Accepted
+    ensures { λ r. ⌜ returned r (now (picture .exit) ∷ now («opened_in» .exit) ∷ []) (now (counts .exit))
+        ≡ verdictReturned (isSolvable flat rows columns «start_row» «start_column» (now (cells .entry)) (now (picture .entry)) (now («opened_in» .entry))) (now (counts .entry)) ⌝ }
+    ensures { λ r. ⌜ (boardTested flat rows columns «start_row» «start_column» (now (cells .entry)) (length (now (picture .entry)) ∷ length (now («opened_in» .entry)) ∷ []) ≡ Accepted
         → 1 < length (now (counts .entry))
         → Demand3 (neighbours flat rows columns) (now (cells .entry)) (startCell columns «start_row» «start_column»)
         (eqb (getD (now (counts .exit)) 0 0) 1) (getD (now (counts .exit)) 1 0) (now (picture .exit))) ⌝ }
 {
-    let verdict = is_solvable(FLAT, rows, columns, start_row, start_column, cells, picture);
+    let verdict = is_solvable(
+        FLAT,
+        rows,
+        columns,
+        start_row,
+        start_column,
+        cells,
+        picture,
+        opened_in,
+    );
     match verdict {
         Verdict::Refused(refusal) => refusal_number(refusal),
         Verdict::Judged(yes, opened, grade, rounds) => {

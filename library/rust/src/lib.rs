@@ -9,6 +9,7 @@
 //! let verdict = lihvompa::verdict(1, 3, (0, 2), &[255, 1, 0]).unwrap();
 //! assert!(verdict.yes);
 //! assert_eq!(verdict.picture, [10, 1, 0]);
+//! assert_eq!(verdict.opened_in, [lihvompa::NO_ROUND, 0, 0]);
 //! ```
 
 use std::fmt;
@@ -55,6 +56,9 @@ impl fmt::Display for Refusal {
 
 impl std::error::Error for Refusal {}
 
+/// Stands in [`Verdict::opened_in`] for a cell that is closed.
+pub const NO_ROUND: u16 = 65535;
+
 /// The verdict on a board.
 #[derive(Clone, Debug, PartialEq, Eq)]
 pub struct Verdict {
@@ -68,6 +72,9 @@ pub struct Verdict {
     pub rounds: usize,
     /// Each open cell's number, else 10.
     pub picture: Vec<u8>,
+    /// The round in which each cell was opened: 0 for the start and what its zeros open, else the number of the pass, counted from 1. A pass that finds mines
+    /// alone counts too. [`NO_ROUND`] where the cell is closed, as mines are.
+    pub opened_in: Vec<u16>,
 }
 
 /// What is counted of a position's frontier.
@@ -135,7 +142,7 @@ mod exported {
         pub fn lihvompa_pattern(rows: usize, columns: usize, cells: *const u8, length: usize, counts: *mut u64, counted: usize) -> u8;
         pub fn lihvompa_verdict(
             rows: usize, columns: usize, start_row: usize, start_column: usize, cells: *const u8, length: usize, picture: *mut u8, picture_length: usize,
-            counts: *mut u64, counted: usize,
+            opened_in: *mut u16, opened_in_length: usize, counts: *mut u64, counted: usize,
         ) -> u8;
     }
 }
@@ -160,16 +167,17 @@ fn answered<const N: usize>(number: u8, counts: [u64; N]) -> Result<[usize; N], 
 /// The verdict on a board from a start. A start on a mine is refused, as the last test. A start of 255, 255, which once meant the first 0 in reading order, is off
 /// every board.
 pub fn verdict(rows: usize, columns: usize, start: (usize, usize), cells: &[u8]) -> Result<Verdict, Refusal> {
-    let mut picture = vec![10; cells.len()];
+    let (mut picture, mut opened_in) = (vec![10; cells.len()], vec![0; cells.len()]);
     let mut counts = [0; 4];
     // each pointer is of a live slice of the length beside it, and no two slices overlap; so in every call below
     let number = unsafe {
         exported::lihvompa_verdict(
-            rows, columns, start.0, start.1, cells.as_ptr(), cells.len(), picture.as_mut_ptr(), picture.len(), counts.as_mut_ptr(), counts.len(),
+            rows, columns, start.0, start.1, cells.as_ptr(), cells.len(), picture.as_mut_ptr(), picture.len(), opened_in.as_mut_ptr(), opened_in.len(),
+            counts.as_mut_ptr(), counts.len(),
         )
     };
     let [yes, opened, grade, rounds] = answered(number, counts)?;
-    Ok(Verdict { yes: yes == 1, opened, grade, rounds, picture })
+    Ok(Verdict { yes: yes == 1, opened, grade, rounds, picture, opened_in })
 }
 
 /// Whether a board has a pattern of mines that leaves a guess. Only mines are looked at.

@@ -1,15 +1,20 @@
 //! The small boards of SPECIFICATION 12, the record example (5.4) and the refusals (3.1), and boards worked out by hand, through the safe functions.
-use lihvompa::{direct, enumerate, frontier, minus, pattern, table, verdict, Deduction, Frontier, Refusal};
+use lihvompa::{direct, enumerate, frontier, minus, pattern, table, verdict, Deduction, Frontier, Refusal, NO_ROUND};
 
 fn found(safe: &[u16], mines: &[u16], position: &[u8]) -> Result<Deduction, Refusal> {
     Ok(Deduction { safe: safe.to_vec(), mines: mines.to_vec(), position: position.to_vec() })
 }
 
-/// Yes or no, opened cells, grade, rounds.
+/// Yes or no, opened cells, grade, rounds; the picture and the cells' rounds belong to them.
 fn judged(rows: usize, columns: usize, start: (usize, usize), cells: &[u8]) -> (bool, usize, usize, usize) {
     let v = verdict(rows, columns, start, cells).unwrap();
     assert_eq!(v.picture.len(), cells.len());
     assert_eq!(v.picture.iter().filter(|&&cell| cell <= 8).count(), v.opened);
+    assert_eq!(v.opened_in.len(), cells.len());
+    assert_eq!(v.opened_in[start.0 * columns + start.1], 0);
+    for (&cell, &round) in v.picture.iter().zip(&v.opened_in) {
+        assert!(if cell <= 8 { round as usize <= v.rounds } else { round == NO_ROUND });
+    }
     (v.yes, v.opened, v.grade, v.rounds)
 }
 
@@ -83,6 +88,7 @@ fn case_10_stuck_at_the_start() {
     let v = verdict(2, 3, (1, 0), &[1, 255, 1, 1, 1, 1]).unwrap();
     assert_eq!((v.yes, v.opened, v.grade, v.rounds), (false, 1, 4, 0));
     assert_eq!(v.picture, [10, 10, 10, 1, 10, 10]);
+    assert_eq!(v.opened_in, [NO_ROUND, NO_ROUND, NO_ROUND, 0, NO_ROUND, NO_ROUND]);
 }
 
 #[test]
@@ -110,6 +116,25 @@ fn boards_by_hand() {
     let board = [1, 255, 1, 1, 1, 1, 0, 0, 0];
     assert_eq!(judged(3, 3, (2, 0), &board), (true, 8, 2, 1));
     assert_eq!(judged(3, 3, (2, 2), &board), (true, 8, 2, 1));
+}
+
+#[test]
+fn each_cell_has_the_round_in_which_it_was_opened() {
+    const NO: u16 = NO_ROUND;
+    assert_eq!(NO, 65535);
+    // the start and what its zeros open have round 0
+    assert_eq!(verdict(1, 3, (0, 2), &[255, 1, 0]).unwrap().opened_in, [NO, 0, 0]);
+    // the first pass finds mines alone and counts, so no cell has round 1
+    let board = [0, 1, 1, 2, 3, 255, 255, 255, 2];
+    assert_eq!(judged(3, 3, (0, 0), &board), (true, 6, 2, 3));
+    assert_eq!(verdict(3, 3, (0, 0), &board).unwrap().opened_in, [0, 0, 3, 0, 0, NO, NO, NO, 2]);
+    // the only pass finds a mine, and no cell has its number; a safe cell that stays closed has none
+    assert_eq!(judged(1, 3, (0, 0), &[1, 255, 1]), (false, 1, 4, 1));
+    assert_eq!(verdict(1, 3, (0, 0), &[1, 255, 1]).unwrap().opened_in, [0, NO, NO]);
+    // the second pass opens a 0 in the last row; the last cell of that row and the one above it touch no cell that was open before, and its flood opens them
+    let board = [0, 0, 1, 255, 1, 2, 2, 2, 1, 1, 255, 255, 1, 0, 0];
+    assert_eq!(judged(3, 5, (0, 0), &board), (true, 12, 1, 3));
+    assert_eq!(verdict(3, 5, (0, 0), &board).unwrap().opened_in, [0, 0, 0, NO, 3, 0, 0, 0, 2, 2, NO, NO, 1, 2, 2]);
 }
 
 #[test]

@@ -38,19 +38,25 @@ put-count-requires-4 c κs = search needs
 same-length : tie.Need-same-length
 same-length c = search needs
 
+same-length-2 : tie.Need-same-length-2
+same-length-2 c = search needs
+
 returns : tie.Need-returns
 returns c =
     let told = c .before .before in
-    let asked = told .before .before .before .before in (
+    let asked = told .before .before .before .before .before .before in (
       verdict-returned _ (asked .is-solvable .ensures .0) (told .verdict .given .1) (values-returned (c .refusal-number .ensures) (none-laid _)),
       λ accepted room. refusal-never-meets (told .verdict .given .1) (asked .is-solvable .ensures .1 accepted),
     )
 
-same-length-2 : tie.Need-same-length-2
-same-length-2 c = search needs
-
 same-length-3 : tie.Need-same-length-3
 same-length-3 c = search needs
+
+same-length-4 : tie.Need-same-length-4
+same-length-4 c = search needs
+
+same-length-5 : tie.Need-same-length-5
+same-length-5 c = search needs
 
 returns-2 : tie.Need-returns-2
 returns-2 c =
@@ -59,8 +65,8 @@ returns-2 c =
     let second = third .before .before .before .before in
     let first = second .before .before .before .before in
     let told = first .before .before .before .before in
-    let asked = told .before .before .before .before in
-    let counts = asked .before .before .before .before .before .args .counts .now in
+    let asked = told .before .before .before .before .before .before in
+    let counts = asked .before .before .before .before .before .before .before .args .counts .now in
     let stored = four-laid counts _ _ _ _ (rw (first .before .bit .ensures) at (first .put-count .ensures)) (second .put-count2 .ensures)
     (third .put-count3 .ensures) (fourth .put-count4 .ensures) in (
       verdict-returned counts (asked .is-solvable .ensures .0) (told .verdict2 .given .1) (values-returned refl stored),
@@ -81,7 +87,9 @@ lihvompa-verdict-spec =
     put-count-requires-3
     put-count-requires-4
     same-length
-    returns
     same-length-2
+    returns
     same-length-3
+    same-length-4
+    same-length-5
     returns-2)
