@@ -1,4 +1,4 @@
--- `put_judged` meets its contract: the verdict and the picture are one text. Assumes nothing.
+-- `put_judged` meets its contract: the verdict and what stands behind it are one text. Assumes nothing.
 use Rattle.verdict.specs.Verdict.{verdictSeen}
 use Rattle.board_lines.proofs.VerdictWritten.{seen-written}
 use borrow.Author.Needs.{needs}
@@ -8,18 +8,18 @@ use Rattle.board_lines.proofs.verdicts.put_judged.Tie as tie
 put-verdict-requires : tie.Need-put-verdict-requires
 put-verdict-requires c κs = search needs
 
-put-picture-requires : tie.Need-put-picture-requires
-put-picture-requires c κs = search needs
+put-slices-requires : tie.Need-put-slices-requires
+put-slices-requires c κs = search needs
 
 same-length : tie.Need-same-length
 same-length c = search needs
 
 returns : tie.Need-returns
 returns c =
-    let picture = c .before .before in
-    let verdict = picture .before .before .before .before in
-    let a = verdict .before .before .before .before .args in
-    seen-written (verdictSeen (a .verdict) (a .picture .now)) (verdict .put-verdict .ensures) (picture .put-picture .ensures)
+    let slices = c .before .before in
+    let verdict = slices .before .before .before .before in
+    let a = verdict .before .before .before .before .before .args in
+    seen-written (verdictSeen (a .verdict) (a .picture .now) (a .opened-in .now)) (verdict .put-verdict .ensures) (slices .put-slices .ensures)
 
 pub put-judged-spec : {M : Type 1} → statement M
-put-judged-spec = tie.close (tie.spec put-verdict-requires put-picture-requires same-length returns)
+put-judged-spec = tie.close (tie.spec put-verdict-requires put-slices-requires same-length returns)

@@ -1,17 +1,16 @@
--- `verdict_line` meets its contract: the call is made on the line's cells, at the front of their array, and on as many zeros, at the front of another; what it
+-- `verdict_line` meets its contract: the call is made on the line's cells, at the front of their array, and on as many zeros, at the front of two others; what it
 -- leaves there is printed with its answer. Rests on the laws of the answer to a line with a start, `VerdictWritten`. Assumes nothing.
-use mathlib.Core.Path.{_≡_, sym, _∙_}
-use mathlib.Core.List.{List, _++_}
+use mathlib.Core.Path.{_∙_}
+use mathlib.Core.List.{List}
 use Prim.Native.Nat.{ℕ, _≤_}
 use native.Mathlib.Omega.{arith}
-use lib.ListN.{length, take, drop, length-take, length-append}
-use lib.Seq.{take-at}
+use lib.ListN.{length, length-take}
 use borrow.Author.Needs.{needs}
 use borrow.Author.Tests.{not-true, not-false}
 use Rattle.verdict.specs.Verdict.{verdictSeen}
 use Rattle.lines.specs.declared.Line.{Line}
 use Rattle.lines.proofs.CellsSoFar.{start-fits}
-use Rattle.board_lines.proofs.VerdictWritten.{zeros, zeros-long, lent-zeros, verdict-unreadable, verdict-line-written}
+use Rattle.board_lines.proofs.VerdictWritten.{zeros-long, lent-zeros, InPlace, in-place, verdict-unreadable, verdict-line-written}
 use Rattle.board_lines.proofs.verdicts.verdict_line.Statement.{statement}
 use Rattle.board_lines.proofs.verdicts.verdict_line.Tie as tie
 
@@ -23,20 +22,22 @@ board c = c .read-start-line .result .board
 fits : (c : tie.After-read-start-line) → (board c .len ≤ length (board c .cells)) × (board c .len ≤ 1025)
 fits c = start-fits _ (c .read-start-line .result) (c .read-start-line .ensures)
 
--- where the call has answered: the line that was read, and the picture that is left
+-- where the call has answered: the line that was read, and what is left in the two slices
 abbrev read : tie.After-is-solvable → tie.After-read-start-line
-read c = c .before .before .before .before .before .before .before
+read c = c .before .before .before .before .before .before .before .before
 
 abbrev shown : tie.After-is-solvable → List ℕ
 shown c = c .is-solvable .last .1 .1 .1 .1 .1 .1 .0
 
--- it is as long as the board has cells
-same-cells : (c : tie.After-is-solvable) → length (shown c) ≡ board (read c) .len
-same-cells c = c .is-solvable .kept .1 .1 .1 .1 .1 .1 .0 ∙ zeros-long (board (read c) .len) (fits (read c) .1)
+abbrev opened-in : tie.After-is-solvable → List ℕ
+opened-in c = c .is-solvable .last .1 .1 .1 .1 .1 .1 .1 .0
 
--- so it is what stands in the place of the zeros that were lent
-front : (c : tie.After-is-solvable) → take (board (read c) .len) (shown c ++ drop (board (read c) .len) zeros) ≡ shown c
-front c = take-at (shown c) _ _ (same-cells c)
+-- both stand in the place of the zeros that were lent
+picture-in-place : (c : tie.After-is-solvable) → InPlace (board (read c) .len) (shown c)
+picture-in-place c = in-place _ (fits (read c) .1) (shown c) (c .is-solvable .kept .1 .1 .1 .1 .1 .1 .0)
+
+rounds-in-place : (c : tie.After-is-solvable) → InPlace (board (read c) .len) (opened-in c)
+rounds-in-place c = in-place _ (fits (read c) .1) (opened-in c) (c .is-solvable .kept .1 .1 .1 .1 .1 .1 .1 .0)
 
 read-start-line-requires : tie.Need-read-start-line-requires
 read-start-line-requires c κs = search needs
@@ -66,16 +67,28 @@ array-borrow-prefix-picture : tie.Need-array-borrow-prefix-picture
 array-borrow-prefix-picture c = omega (arith, fits (c .before .before .before .before .before) .1)
 
 slice-aggregate-is-solvable-2 : tie.Need-slice-aggregate-is-solvable-2
-slice-aggregate-is-solvable-2 c = let line = c .before .before .before .before .before .before in sym (zeros-long (board line .len) (fits line .1))
+slice-aggregate-is-solvable-2 c = zeros-long _ (fits (c .before .before .before .before .before .before) .1)
+
+array-borrow-prefix-opened-in : tie.Need-array-borrow-prefix-opened-in
+array-borrow-prefix-opened-in c = omega (arith, fits (c .before .before .before .before .before .before) .1)
+
+slice-aggregate-is-solvable-3 : tie.Need-slice-aggregate-is-solvable-3
+slice-aggregate-is-solvable-3 c = zeros-long _ (fits (c .before .before .before .before .before .before .before) .1)
 
 is-solvable-requires : tie.Need-is-solvable-requires
 is-solvable-requires c κs = search needs
 
 array-share-prefix-picture : tie.Need-array-share-prefix-picture
-array-share-prefix-picture c = simp length-append (omega (arith, same-cells (c .before .before)))
+array-share-prefix-picture c = picture-in-place (c .before .before .before) .within
 
 slice-aggregate-put-judged : tie.Need-slice-aggregate-put-judged
-slice-aggregate-put-judged c = let call = c .before .before .before in rw (front call) (sym (same-cells call))
+slice-aggregate-put-judged c = picture-in-place (c .before .before .before .before) .long
+
+array-share-prefix-opened-in : tie.Need-array-share-prefix-opened-in
+array-share-prefix-opened-in c = rounds-in-place (c .before .before .before .before) .within
+
+slice-aggregate-put-judged-2 : tie.Need-slice-aggregate-put-judged-2
+slice-aggregate-put-judged-2 c = rounds-in-place (c .before .before .before .before .before) .long
 
 put-judged-requires : tie.Need-put-judged-requires
 put-judged-requires c κs = search needs
@@ -85,11 +98,12 @@ same-length-2 c = search needs
 
 returns-2 : tie.Need-returns-2
 returns-2 c =
-    let call = c .before .before .before .before .before .before in
+    let judged = c .before .before in
+    let call = judged .before .before .before .before .before .before in
     let line = read call in
-    verdict-line-written _ (line .read-start-line .result) (line .read-start-line .ensures) (not-false (board line .readable) (call .before .before .before .before .if1 .left))
-    (verdictSeen (call .is-solvable .result) (shown call)) (call .is-solvable .ensures .0 ∙ lent-zeros (line .read-start-line .result) (fits line .1))
-    (rw (front call) at (c .before .before .put-judged .ensures))
+    verdict-line-written _ (line .read-start-line .result) (line .read-start-line .ensures) (not-false (board line .readable) (call .before .before .before .before .before .if1 .left))
+    (verdictSeen (call .is-solvable .result) (shown call) (opened-in call)) (call .is-solvable .ensures .0 ∙ lent-zeros (line .read-start-line .result) (fits line .1))
+    (rw (picture-in-place call .front, rounds-in-place call .front) at (judged .put-judged .ensures))
 
 pub verdict-line-spec : {M : Type 1} → statement M
 verdict-line-spec =
@@ -104,9 +118,13 @@ verdict-line-spec =
     slice-aggregate-is-solvable
     array-borrow-prefix-picture
     slice-aggregate-is-solvable-2
+    array-borrow-prefix-opened-in
+    slice-aggregate-is-solvable-3
     is-solvable-requires
     array-share-prefix-picture
     slice-aggregate-put-judged
+    array-share-prefix-opened-in
+    slice-aggregate-put-judged-2
     put-judged-requires
     same-length-2
     returns-2)
