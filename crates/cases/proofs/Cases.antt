@@ -18,11 +18,12 @@ use Rattle.enumeration.specs.Enumeration.{safeCells, mineCells, enumerated}
 use Rattle.marks.specs.Written.{written}
 use Rattle.deductions.specs.Answers.{refusedAnswer, afterFound}
 use Rattle.tables.specs.Tables.{tableOf, blockAsked, calAllSolution}
+use Rattle.rounds.specs.Rounds.{roundsOf, judgeRounds}
 use Rattle.verdict.specs.Verdict.{isSolvable}
 use Rattle.patterns.specs.Shapes.{amongMines, framed, foundAt, foundAnywhere, foundInCorner, patternFound}
 use Rattle.patterns.specs.Answer.{unsolvableStructure}
 use Rattle.cases.specs.Table.{endsWith, holds, table}
 
 pub all-cases : all holds table ≡ true
-unfolding table holds endsWith around neighbours sizeOk lengthOk roomOk boardCellsOk positionCellsOk startOk numbersOk startCell startSafe boardTested positionTested deductionTested fits freeInEvery ask allOpen rotated sources blockOf frontier insideCells knownMines chunkMatrix chunkMatrixes sureMines sureSafe directLeft direct minusMines minusSafe minusLeft subtraction refusedAnswer written afterFound patternTested amongMines framed foundAt foundAnywhere foundInCorner patternFound unsolvableStructure firsts groups sizes groupsIn weighed solutions safeCells mineCells enumerated tableOf blockAsked calAllSolution orElse openCells pass judge isSolvable
+unfolding table holds endsWith around neighbours sizeOk lengthOk roomOk boardCellsOk positionCellsOk startOk numbersOk startCell startSafe boardTested positionTested deductionTested fits freeInEvery ask allOpen rotated sources blockOf frontier insideCells knownMines chunkMatrix chunkMatrixes sureMines sureSafe directLeft direct minusMines minusSafe minusLeft subtraction refusedAnswer written afterFound patternTested amongMines framed foundAt foundAnywhere foundInCorner patternFound unsolvableStructure firsts groups sizes groupsIn weighed solutions safeCells mineCells enumerated tableOf blockAsked calAllSolution orElse openCells pass judge roundsOf judgeRounds isSolvable
 all-cases = refl

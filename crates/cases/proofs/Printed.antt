@@ -14,6 +14,7 @@ use Rattle.subtraction.specs.Minus.{minusMines, minusSafe, minusLeft, subtracti
 use Rattle.groups.specs.Groups.{firsts, groups, sizes, groupsIn}
 use Rattle.search.specs.Solutions.{weighed, solutions}
 use Rattle.enumeration.specs.Enumeration.{safeCells, mineCells, enumerated}
+use Rattle.rounds.specs.Rounds.{roundsOf, judgeRounds}
 use Rattle.verdict.specs.Verdict.{isSolvable}
 use Rattle.text.specs.Text.{decimal}
 use Rattle.records.specs.Records.{recordLength, recordOf}
@@ -34,5 +35,5 @@ exampleOutput =
     ∷ 51 ∷ 32 ∷ 114 ∷ 101 ∷ 102 ∷ 117 ∷ 115 ∷ 101 ∷ 100 ∷ 32 ∷ 49 ∷ 10 ∷ []
 
 pub example-printed : printed exampleInput ≡ exampleOutput
-unfolding around neighbours sizeOk lengthOk roomOk boardCellsOk positionCellsOk startOk numbersOk startCell startSafe boardTested positionTested deductionTested allOpen rotated sources blockOf frontier chunkMatrix chunkMatrixes sureMines sureSafe directLeft direct minusMines minusSafe minusLeft subtraction firsts groups sizes groupsIn weighed solutions safeCells mineCells enumerated orElse openCells pass judge isSolvable recordLength recordOf pictureSize verdictText lineText boardVerdict decimal verdicts textFrom printed
+unfolding around neighbours sizeOk lengthOk roomOk boardCellsOk positionCellsOk startOk numbersOk startCell startSafe boardTested positionTested deductionTested allOpen rotated sources blockOf frontier chunkMatrix chunkMatrixes sureMines sureSafe directLeft direct minusMines minusSafe minusLeft subtraction firsts groups sizes groupsIn weighed solutions safeCells mineCells enumerated orElse openCells pass judge roundsOf judgeRounds isSolvable recordLength recordOf pictureSize verdictText lineText boardVerdict decimal verdicts textFrom printed
 example-printed = refl

@@ -25,7 +25,7 @@ use Rattle.fitting.specs.Passes.{allOpen}
 
 -- a line of the table
 pub data Case : Type 0 where
-  -- a board of that size and start, lent a picture of its size: the number of the refusal, or 0
+  -- a board of that size and start, lent a picture and rounds of its size: the number of the refusal, or 0
   board-tested : (rows columns row column : ℕ) → List ℕ → ℕ → Case
   -- a position of that size: the number of the refusal, or 0
   position-tested : (rows columns : ℕ) → List ℕ → ℕ → Case
@@ -37,10 +37,12 @@ pub data Case : Type 0 where
   contradictory : (rule : List Block → Found) → (rows columns : ℕ) → List ℕ → Case
   -- the table of a block of a position, lent these bytes: the answer's number and its values, the counts of solutions and groups, and the bytes after
   tabulated : (rows columns : ℕ) → List ℕ → (block : ℕ) → (lent : List ℕ) → (number : ℕ) → (values after : List ℕ) → Case
-  -- the verdict of a board from a start, lent a picture of zeros: yes or no, opened cells, grade and rounds, and the picture after
-  judged : (rows columns row column : ℕ) → List ℕ → (answer : Bool) → (opened grade rounds : ℕ) → (after : List ℕ) → Case
-  -- or the number of the refusal, which leaves the picture
+  -- the verdict of a board from a start, lent zeros for the picture and the rounds: yes or no, opened cells, grade and rounds, the picture after, and the rounds of the cells
+  judged : (rows columns row column : ℕ) → List ℕ → (answer : Bool) → (opened grade rounds : ℕ) → (after openedIn : List ℕ) → Case
+  -- or the number of the refusal, which leaves both
   unjudged : (rows columns row column : ℕ) → List ℕ → (refusal : ℕ) → Case
+  -- the same of a board that is lent so many sevens for the picture, and so many for the rounds
+  mislent : (rows columns row column : ℕ) → List ℕ → (picture openedIn : ℕ) → (refusal : ℕ) → Case
   -- the pattern call on a board: the answer's number and its value, 1 where a pattern is found
   pattern : (rows columns : ℕ) → List ℕ → (number : ℕ) → (values : List ℕ) → Case
   -- the solver of demand 3 on a board, from the cell s: its position when it is done, its open cells, and whether they are all the safe ones
@@ -87,13 +89,18 @@ listHolds slice n cells = eqb n (length cells) && same slice (cells ++ replicate
 abbrev sameTable : TableSeen → ℕ → List ℕ → List ℕ → Bool
 sameTable w n values after = eqb (tableNumber (w .answer)) n && (same (tableValues (w .answer)) values && same (w .table) after)
 
--- the verdict has this number and these values, and leaves this picture
-abbrev sameVerdict : VerdictSeen → ℕ → List ℕ → List ℕ → Bool
-sameVerdict w n values after = eqb (verdictNumber (w .answer)) n && (same (verdictValues (w .answer)) values && same (w .shown) after)
+-- the verdict has this number and these values, and leaves this picture and these rounds
+abbrev sameVerdict : VerdictSeen → ℕ → List ℕ → List ℕ → List ℕ → Bool
+sameVerdict w n values after openedIn =
+    eqb (verdictNumber (w .answer)) n && (same (verdictValues (w .answer)) values && (same (w .shown) after && same (w .openedIn) openedIn))
+
+-- in the place of a round: the cell is closed
+abbrev none : ℕ
+none = 65535
 
 -- the line holds
 unfoldable pub holds : Case → Bool
-holds (board-tested rows columns row column b n) = eqb (testedNumber (boardTested flat rows columns row column b (rows * columns ∷ []))) n
+holds (board-tested rows columns row column b n) = eqb (testedNumber (boardTested flat rows columns row column b (rows * columns ∷ rows * columns ∷ []))) n
 holds (position-tested rows columns p n) = eqb (testedNumber (positionTested rows columns p)) n
 holds (frontier-read rows columns p bs inside known) =
     sameBy sameBlock (frontier (neighbours flat rows columns) p) bs
@@ -109,9 +116,12 @@ holds (contradictory rule rows columns p) =
     && (listHolds (called rule rows columns p .safe) (called rule rows columns p .answer .safe) []
     && listHolds (called rule rows columns p .mines) (called rule rows columns p .answer .mines) []))
 holds (tabulated rows columns p block lent n values after) = sameTable (calAllSolution flat rows columns p block lent) n values after
-holds (judged rows columns row column b answer n grade rounds after) =
-    sameVerdict (isSolvable flat rows columns row column b (replicate (length b) 0)) 0 (bit answer ∷ n ∷ grade ∷ rounds ∷ []) after
-holds (unjudged rows columns row column b n) = sameVerdict (isSolvable flat rows columns row column b (replicate (length b) 0)) n [] (replicate (length b) 0)
+holds (judged rows columns row column b answer n grade rounds after openedIn) =
+    sameVerdict (isSolvable flat rows columns row column b (replicate (length b) 0) (replicate (length b) 0)) 0 (bit answer ∷ n ∷ grade ∷ rounds ∷ []) after openedIn
+holds (unjudged rows columns row column b n) =
+    sameVerdict (isSolvable flat rows columns row column b (replicate (length b) 0) (replicate (length b) 0)) n [] (replicate (length b) 0) (replicate (length b) 0)
+holds (mislent rows columns row column b picture openedIn n) =
+    sameVerdict (isSolvable flat rows columns row column b (replicate picture 7) (replicate openedIn 7)) n [] (replicate picture 7) (replicate openedIn 7)
 holds (pattern rows columns b n values) =
     eqb (patternNumber (unsolvableStructure rows columns b)) n && same (patternValues (unsolvableStructure rows columns b)) values
 holds (solver rows columns s b p n all) = endsWith rows columns s b p && (eqb (opened p) n && Bool·beq (allOpen b p) all)
@@ -159,27 +169,42 @@ table =
     ∷ tabulated 2 3 (10 ∷ 10 ∷ 10 ∷ 1 ∷ 1 ∷ 1 ∷ []) 0 (7 ∷ 7 ∷ []) 9 [] (7 ∷ 7 ∷ [])
     ∷ tabulated 2 3 (10 ∷ 10 ∷ 10 ∷ 1 ∷ 1 ∷ 1 ∷ []) 0 (7 ∷ 7 ∷ 7 ∷ []) 0 (1 ∷ 3 ∷ []) (0 ∷ 1 ∷ 0 ∷ [])
     -- 8. board `0`, start 0,0: yes, 1 opened; the solver opens it too
-    ∷ judged 1 1 0 0 (0 ∷ []) true 1 0 0 (0 ∷ [])
+    ∷ judged 1 1 0 0 (0 ∷ []) true 1 0 0 (0 ∷ []) (0 ∷ [])
     ∷ solver 1 1 0 (0 ∷ []) (0 ∷ []) 1 true
     -- 9. 3 × 3, all mines but 0,0, start 0,0: yes, 1 opened
-    ∷ judged 3 3 0 0 (3 ∷ replicate 8 255) true 1 0 0 (3 ∷ replicate 8 10)
+    ∷ judged 3 3 0 0 (3 ∷ replicate 8 255) true 1 0 0 (3 ∷ replicate 8 10) (0 ∷ replicate 8 none)
     ∷ solver 3 3 0 (3 ∷ replicate 8 255) (3 ∷ replicate 8 10) 1 true
     -- pattern found; below 3 rows it is refusal 1
     ∷ pattern 3 3 (3 ∷ replicate 8 255) 0 (1 ∷ [])
     ∷ pattern 2 3 (3 ∷ replicate 5 255) 1 []
     -- 10. `1 255 1 / 1 1 1`, start 1,0: no, 1 opened, grade 4
-    ∷ judged 2 3 1 0 (1 ∷ 255 ∷ 1 ∷ 1 ∷ 1 ∷ 1 ∷ []) false 1 4 0 (10 ∷ 10 ∷ 10 ∷ 1 ∷ 10 ∷ 10 ∷ [])
+    ∷ judged 2 3 1 0 (1 ∷ 255 ∷ 1 ∷ 1 ∷ 1 ∷ 1 ∷ []) false 1 4 0 (10 ∷ 10 ∷ 10 ∷ 1 ∷ 10 ∷ 10 ∷ []) (none ∷ none ∷ none ∷ 0 ∷ none ∷ none ∷ [])
     ∷ solver 2 3 3 (1 ∷ 255 ∷ 1 ∷ 1 ∷ 1 ∷ 1 ∷ []) (10 ∷ 10 ∷ 10 ∷ 1 ∷ 10 ∷ 10 ∷ []) 1 false
     -- the boards of the printed example: `255 1 0` from its 0, and `1 255 1`, where the direct rule finds the mine and then nothing
-    ∷ judged 1 3 0 2 (255 ∷ 1 ∷ 0 ∷ []) true 2 0 0 (10 ∷ 1 ∷ 0 ∷ [])
-    ∷ judged 1 3 0 0 (1 ∷ 255 ∷ 1 ∷ []) false 1 4 1 (1 ∷ 10 ∷ 10 ∷ [])
+    ∷ judged 1 3 0 2 (255 ∷ 1 ∷ 0 ∷ []) true 2 0 0 (10 ∷ 1 ∷ 0 ∷ []) (none ∷ 0 ∷ 0 ∷ [])
+    ∷ judged 1 3 0 0 (1 ∷ 255 ∷ 1 ∷ []) false 1 4 1 (1 ∷ 10 ∷ 10 ∷ []) (0 ∷ none ∷ none ∷ [])
     -- Paper 2: the strongest rule is the direct one, subtraction, enumeration; judged yes, each board has the grade of its rule
     ∷ judged 3 3 0 0 (0 ∷ 0 ∷ 0 ∷ 1 ∷ 2 ∷ 2 ∷ 1 ∷ 255 ∷ 255 ∷ []) true 7 1 1 (0 ∷ 0 ∷ 0 ∷ 1 ∷ 2 ∷ 2 ∷ 1 ∷ 10 ∷ 10 ∷ [])
+    (0 ∷ 0 ∷ 0 ∷ 0 ∷ 0 ∷ 0 ∷ 1 ∷ none ∷ none ∷ [])
     ∷ judged 3 3 0 0 (0 ∷ 0 ∷ 0 ∷ 1 ∷ 1 ∷ 1 ∷ 1 ∷ 255 ∷ 1 ∷ []) true 8 2 1 (0 ∷ 0 ∷ 0 ∷ 1 ∷ 1 ∷ 1 ∷ 1 ∷ 10 ∷ 1 ∷ [])
+    (0 ∷ 0 ∷ 0 ∷ 0 ∷ 0 ∷ 0 ∷ 1 ∷ none ∷ 1 ∷ [])
     ∷ judged 3 3 0 0 (0 ∷ 1 ∷ 1 ∷ 1 ∷ 2 ∷ 255 ∷ 1 ∷ 255 ∷ 2 ∷ []) true 7 3 2 (0 ∷ 1 ∷ 1 ∷ 1 ∷ 2 ∷ 10 ∷ 1 ∷ 10 ∷ 2 ∷ [])
+    (0 ∷ 0 ∷ 2 ∷ 0 ∷ 0 ∷ none ∷ 2 ∷ none ∷ 1 ∷ [])
     -- judged no, after subtraction and after enumeration: 4
     ∷ judged 3 3 0 0 (0 ∷ 1 ∷ 1 ∷ 2 ∷ 4 ∷ 255 ∷ 255 ∷ 255 ∷ 255 ∷ []) false 4 4 2 (0 ∷ 1 ∷ 10 ∷ 2 ∷ 4 ∷ 10 ∷ 10 ∷ 10 ∷ 10 ∷ [])
+    (0 ∷ 0 ∷ none ∷ 0 ∷ 0 ∷ none ∷ none ∷ none ∷ none ∷ [])
     ∷ judged 3 3 0 0 (0 ∷ 1 ∷ 1 ∷ 1 ∷ 3 ∷ 255 ∷ 1 ∷ 255 ∷ 255 ∷ []) false 4 4 1 (0 ∷ 1 ∷ 10 ∷ 1 ∷ 3 ∷ 10 ∷ 10 ∷ 10 ∷ 10 ∷ [])
+    (0 ∷ 0 ∷ none ∷ 0 ∷ 0 ∷ none ∷ none ∷ none ∷ none ∷ [])
+    -- Paper 1: a pass that finds mines alone is a pass, so that no cell has the round 1
+    ∷ judged 3 3 0 0 (0 ∷ 1 ∷ 1 ∷ 2 ∷ 3 ∷ 255 ∷ 255 ∷ 255 ∷ 2 ∷ []) true 6 2 3 (0 ∷ 1 ∷ 1 ∷ 2 ∷ 3 ∷ 10 ∷ 10 ∷ 10 ∷ 2 ∷ [])
+    (0 ∷ 0 ∷ 3 ∷ 0 ∷ 0 ∷ none ∷ none ∷ none ∷ 2 ∷ [])
+    -- a slice of rounds that is too short, too long, or empty is refused, and stays; so is a picture; 1 comes before that, 3 behind it
+    ∷ mislent 1 3 0 2 (255 ∷ 1 ∷ 0 ∷ []) 3 2 2
+    ∷ mislent 1 3 0 2 (255 ∷ 1 ∷ 0 ∷ []) 3 4 2
+    ∷ mislent 1 3 0 2 (255 ∷ 1 ∷ 0 ∷ []) 3 0 2
+    ∷ mislent 1 3 0 2 (255 ∷ 1 ∷ 0 ∷ []) 2 3 2
+    ∷ mislent 1 3 0 2 (9 ∷ 1 ∷ 0 ∷ []) 3 2 2
+    ∷ mislent 0 3 0 2 [] 0 2 1
     -- Paper 7: a start of 255,255 is off the board, with a 0 and without one; 1 and 3 come before it, 5 behind it
     ∷ unjudged 1 3 255 255 (255 ∷ 1 ∷ 0 ∷ []) 4
     ∷ unjudged 1 3 255 255 (1 ∷ 255 ∷ 1 ∷ []) 4
