@@ -4,7 +4,7 @@
 //   oracle frontier | direct | minus | enumerate | table        lines `R C v v v ...`, a position
 //   oracle enumerate-rust                                       the same, with the Rust's own lists (docs/DIFFERENCES.md)
 //   oracle pattern                                              lines `R C v v v ...`, a board, 255 a mine
-//   oracle is_solvable | verdict                                lines `R C r c v v v ...`, a board and its start
+//   oracle is_solvable | verdict                                lines `R C r c v v v ...`, a board and its start; a verdict has its picture and the round of each cell
 //   oracle strongest                                            the same, with the strongest rule that found a cell, which the grade of a no does not tell
 //   oracle judge [--pictures]                                   records (SPECIFICATION 5.1) from standard input
 //
@@ -79,6 +79,11 @@ fn counts_text(v: &Verdict, before_picture: Option<&str>) -> String {
     format!("{} {} {}{}", v.opened, v.grade, v.rounds, picture)
 }
 
+/// Opened cells, grade, rounds and the picture, and the round in which each cell was opened.
+fn verdict_text(v: &Verdict) -> String {
+    format!("{} rounds {}", counts_text(v, Some(" picture ")), values(&v.opened_in))
+}
+
 fn judge(input: &[u8], pictures: bool, out: &mut dyn Write) {
     put_line("board verdict opened grade rounds", out);
     let before_picture = if pictures { Some("\npos ") } else { None };
@@ -122,7 +127,7 @@ fn blocks(a: &Vec<Vec<Vec<i32>>>, x: &Vec<Vec<Cell>>, b: &Vec<Vec<i32>>, columns
     text
 }
 
-fn values(g: &Grid) -> String {
+fn values<T: ToString>(g: &[Vec<T>]) -> String {
     g.iter().flatten().map(|c| c.to_string()).collect::<Vec<_>>().join(" ")
 }
 
@@ -141,7 +146,7 @@ fn answer(mode: &str, numbers: &[i64]) -> String {
         return "unreadable".into();
     }
     match mode {
-        "verdict" => return judged_text(numbers, |v| counts_text(v, Some(" picture "))),
+        "verdict" => return judged_text(numbers, verdict_text),
         "strongest" => return judged_text(numbers, |v| v.strongest.to_string()),
         _ => {}
     }

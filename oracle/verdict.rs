@@ -31,6 +31,10 @@ fn enumerate(a: &Vec<Vec<Vec<i32>>>, x: &Vec<Vec<Cell>>, b: &Vec<Vec<i32>>) -> O
 
 // ---- the verdict of SPECIFICATION 9 over the Rust's functions ----
 
+/// Stands where a cell has no round: it is closed.
+const NO_ROUND: u16 = 65535;
+
+#[derive(Debug)]
 struct Verdict {
     yes: bool,
     opened: usize,
@@ -39,17 +43,37 @@ struct Verdict {
     grade: usize,
     rounds: usize,
     picture: Grid,
+    /// the round in which each cell was opened: 0 for the start and what its zeros open, else the number of the pass
+    opened_in: Vec<Vec<u16>>,
+}
+
+/// Gives this round to each open cell that has none, and counts the open cells.
+fn give_round(g: &Grid, round: usize, opened_in: &mut Vec<Vec<u16>>) -> usize {
+    let mut opened = 0;
+    for (cells, rounds) in g.iter().zip(opened_in) {
+        for (&cell, own) in cells.iter().zip(rounds) {
+            if cell < 10 {
+                opened += 1;
+                if *own == NO_ROUND {
+                    *own = round as u16;
+                }
+            }
+        }
+    }
+    opened
 }
 
 /// The start is safe: a start on a mine is refused with 13 before, and the benchmark's boards start at a 0.
 fn verdict(board: &Grid, start: Cell) -> Verdict {
     let (rows, columns) = (board.len(), board[0].len());
     let mut g = vec![vec![10; columns]; rows];
-    let mut v = Verdict { yes: false, opened: 0, strongest: 0, grade: 4, rounds: 0, picture: g.clone() };
+    let opened_in = vec![vec![NO_ROUND; columns]; rows];
+    let mut v = Verdict { yes: false, opened: 0, strongest: 0, grade: 4, rounds: 0, picture: g.clone(), opened_in };
     let safe_cells = board.iter().flatten().filter(|&&c| c != -1).count();
     refresh_board(board, &mut g, vec![start]);
     loop {
-        v.opened = g.iter().flatten().filter(|&&c| c < 10).count();
+        // what is open and has no round was opened by the flood just before, of the start or of the last pass
+        v.opened = give_round(&g, v.rounds, &mut v.opened_in);
         if v.opened == safe_cells {
             v.yes = true;
             v.grade = v.strongest;
