@@ -1,5 +1,5 @@
 // replay: runs the stored answers of the Rust in data/, one file for each call, in which a line that is asked and the line that the Rust answered
-// follow each other. It names each case whose answer differs, and says how many agree. Last it runs ten answers that are wrong on purpose, and says how many
+// follow each other. It names each case whose answer differs, and says how many agree. Last it runs eleven answers that are wrong on purpose, and says how many
 // of them it took for right.
 use answers::Call;
 use answers::call_line;
