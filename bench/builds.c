@@ -1,6 +1,9 @@
 /* Two builds of the library beside each other: the same random boards and positions through both in one process, in turns of fifty, and every answer and every
  * lent byte compared on the way. Prints for each call the time of the first build, that of the second, and the ratio (above 1: the second is quicker) of the
- * quickest round of each, then the least and the greatest ratio of a round. Run by bench/builds. */
+ * quickest round of each, then the least and the greatest ratio of a round. Run by bench/builds.
+ *
+ * With --before-without-rounds the first build is one from before the verdict had its slice for the rounds of cells: its verdict is called without the slice, and
+ * the rounds of the second are not compared. */
 #define _POSIX_C_SOURCE 200809L
 #include <dlfcn.h>
 #include <stdint.h>
@@ -9,14 +12,17 @@
 #include <string.h>
 #include <time.h>
 
-enum { CELLS = 1024, TABLE = 16384, TURN = 50, ROUNDS = 7, CALLS = 7 };
+enum { CELLS = 1024, TABLE = 16384, TURN = 50, ROUNDS = 7, CALLS = 7, VERDICT_WITHOUT_ROUNDS = CALLS };
 
-typedef uint8_t Verdict(size_t, size_t, size_t, size_t, const uint8_t *, size_t, uint8_t *, size_t, uint64_t *, size_t);
+typedef uint8_t Verdict(size_t, size_t, size_t, size_t, const uint8_t *, size_t, uint8_t *, size_t, uint16_t *, size_t, uint64_t *, size_t);
+typedef uint8_t VerdictWithoutRounds(size_t, size_t, size_t, size_t, const uint8_t *, size_t, uint8_t *, size_t, uint64_t *, size_t);
 typedef uint8_t Look(size_t, size_t, const uint8_t *, size_t, uint64_t *, size_t);
 typedef uint8_t Rule(size_t, size_t, uint8_t *, size_t, uint16_t *, size_t, uint16_t *, size_t, uint64_t *, size_t);
 typedef uint8_t Table(size_t, size_t, const uint8_t *, size_t, size_t, uint8_t *, size_t, uint64_t *, size_t);
 
 static const char *const NAMES[CALLS] = {"verdict", "pattern", "frontier", "direct", "minus", "enumerate", "table"};
+
+static int before_without_rounds = 0;
 
 /* A board with its start, and a position of it: what its verdict shows, some open cells closed again. */
 typedef struct {
@@ -27,7 +33,7 @@ typedef struct {
 /* All that a call writes. */
 typedef struct {
   uint8_t number, bytes[TABLE];
-  uint16_t safe[CELLS], mines[CELLS];
+  uint16_t safe[CELLS], mines[CELLS], opened_in[CELLS];
   uint64_t counts[4];
 } Answer;
 
@@ -39,12 +45,20 @@ static void *call_of(void *build, int call) {
   return found;
 }
 
-static void ask(void *function, int call, const Input *in, Answer *out) {
-  size_t n = in->rows * in->columns;
+/* The number of the call as a build has it. */
+static int shape_of(int side, int call) {
+  return call == 0 && side == 0 && before_without_rounds ? VERDICT_WITHOUT_ROUNDS : call;
+}
+
+static void ask(void *function, int shape, const Input *in, Answer *out) {
+  size_t n = in->rows * in->columns, row = in->start / in->columns, column = in->start % in->columns;
   memset(out->counts, 0, sizeof out->counts);
   memcpy(out->bytes, in->position, n);
-  switch (call) {
-    case 0: out->number = ((Verdict *)function)(in->rows, in->columns, in->start / in->columns, in->start % in->columns, in->cells, n, out->bytes, n, out->counts, 4); break;
+  switch (shape) {
+    case 0: out->number = ((Verdict *)function)(in->rows, in->columns, row, column, in->cells, n, out->bytes, n, out->opened_in, n, out->counts, 4); break;
+    case VERDICT_WITHOUT_ROUNDS:
+      out->number = ((VerdictWithoutRounds *)function)(in->rows, in->columns, row, column, in->cells, n, out->bytes, n, out->counts, 4);
+      break;
     case 1: out->number = ((Look *)function)(in->rows, in->columns, in->cells, n, out->counts, 4); break;
     case 2: out->number = ((Look *)function)(in->rows, in->columns, in->position, n, out->counts, 4); break;
     case 6: out->number = ((Table *)function)(in->rows, in->columns, in->position, n, 0, out->bytes, TABLE, out->counts, 4); break;
@@ -64,7 +78,8 @@ static int mine_at(const Input *in, long row, long column) {
 }
 
 /* A random board with so many mines, its start the first 0 or else the first safe cell; and its position, by the first build's verdict. */
-static void draw(Input *in, size_t rows, size_t columns, size_t mines, Verdict *verdict) {
+static void draw(Input *in, size_t rows, size_t columns, size_t mines, void *verdict) {
+  static Answer answer;
   size_t n = rows * columns;
   memset(in, 0, sizeof *in);
   in->rows = rows;
@@ -80,8 +95,8 @@ static void draw(Input *in, size_t rows, size_t columns, size_t mines, Verdict *
   }
   for (size_t c = n; c-- > 0;)
     if (in->cells[c] == 0 || (in->cells[c] != 255 && in->cells[in->start] != 0)) in->start = c;
-  uint64_t counts[4];
-  verdict(rows, columns, in->start / columns, in->start % columns, in->cells, n, in->position, n, counts, 4);
+  ask(verdict, shape_of(0, 0), in, &answer);
+  memcpy(in->position, answer.bytes, n);
   for (size_t c = 0; c < n; c++)
     if (in->position[c] < 9 && rand() % 12 == 0) in->position[c] = 10;
 }
@@ -96,7 +111,7 @@ static int measure(void *builds[2], int call, const Input *inputs, int count) {
         int side = (k + from / TURN + round) % 2;
         void *function = call_of(builds[side], call);
         double begin = now();
-        for (int i = from; i < from + TURN && i < count; i++) ask(function, call, &inputs[i], &answers[side]);
+        for (int i = from; i < from + TURN && i < count; i++) ask(function, shape_of(side, call), &inputs[i], &answers[side]);
         taken[side] += now() - begin;
       }
     double ratio = taken[0] / taken[1];
@@ -107,7 +122,8 @@ static int measure(void *builds[2], int call, const Input *inputs, int count) {
   int differ = 0;
   for (int i = 0; i < count; i++) {
     memset(answers, 0, sizeof answers);
-    for (int side = 0; side < 2; side++) ask(call_of(builds[side], call), call, &inputs[i], &answers[side]);
+    for (int side = 0; side < 2; side++) ask(call_of(builds[side], call), shape_of(side, call), &inputs[i], &answers[side]);
+    if (before_without_rounds) memset(answers[1].opened_in, 0, sizeof answers[1].opened_in);
     differ += memcmp(&answers[0], &answers[1], sizeof answers[0]) != 0;
   }
   printf("  %-10s %9.2f %9.2f   %.3f   %.3f to %.3f   %d differ\n", NAMES[call], quickest[0] * 1e6 / count, quickest[1] * 1e6 / count,
@@ -116,7 +132,9 @@ static int measure(void *builds[2], int call, const Input *inputs, int count) {
 }
 
 int main(int argc, char **argv) {
-  if (argc != 3) { fprintf(stderr, "usage: builds BEFORE.so AFTER.so\n"); return 2; }
+  before_without_rounds = argc > 1 && strcmp(argv[1], "--before-without-rounds") == 0;
+  argv += before_without_rounds;
+  if (argc - before_without_rounds != 3) { fprintf(stderr, "usage: builds [--before-without-rounds] BEFORE.so AFTER.so\n"); return 2; }
   void *builds[2];
   for (int side = 0; side < 2; side++)
     if (!(builds[side] = dlopen(argv[side + 1], RTLD_NOW | RTLD_LOCAL))) { fprintf(stderr, "builds: %s\n", dlerror()); return 2; }
@@ -126,7 +144,7 @@ int main(int argc, char **argv) {
   for (size_t k = 0; k < sizeof sets / sizeof sets[0]; k++) {
     int count = (int)sets[k][3];
     Input *inputs = malloc(count * sizeof *inputs);
-    for (int i = 0; i < count; i++) draw(&inputs[i], sets[k][0], sets[k][1], sets[k][2], (Verdict *)call_of(builds[0], 0));
+    for (int i = 0; i < count; i++) draw(&inputs[i], sets[k][0], sets[k][1], sets[k][2], call_of(builds[0], 0));
     printf("%d of %zu x %zu with %zu mines: call, us before, us after, ratio, ratios of the rounds\n", count, sets[k][0], sets[k][1], sets[k][2]);
     for (int call = 0; call < CALLS; call++) differ += measure(builds, call, inputs, count);
     free(inputs);

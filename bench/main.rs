@@ -86,13 +86,17 @@ fn timed<T>(time: &mut Time, call: impl FnOnce() -> T) -> T {
     answer
 }
 
-/// Runs both on each of `count` inputs, a hundred at a time, and sees that their answers are equal.
-fn turns<T: PartialEq + std::fmt::Debug>(name: &str, count: usize, rust: impl Fn(usize) -> T, ours: impl Fn(usize) -> T) -> (Time, Time) {
+/// Runs both on each of `count` inputs, a hundred at a time, and sees that their answers are equal, which is not timed.
+fn turns<R, O>(name: &str, count: usize, rust: impl Fn(usize) -> R, ours: impl Fn(usize) -> O) -> (Time, Time)
+where
+    R: PartialEq<O> + std::fmt::Debug,
+    O: std::fmt::Debug,
+{
     let (mut rust_time, mut our_time) = (Time::default(), Time::default());
     for first in (0..count).step_by(100) {
         let turn = first..min(first + 100, count);
-        let from_rust: Vec<T> = turn.clone().map(|k| timed(&mut rust_time, || rust(k))).collect();
-        let from_ours: Vec<T> = turn.map(|k| timed(&mut our_time, || ours(k))).collect();
+        let from_rust: Vec<R> = turn.clone().map(|k| timed(&mut rust_time, || rust(k))).collect();
+        let from_ours: Vec<O> = turn.map(|k| timed(&mut our_time, || ours(k))).collect();
         assert_eq!(from_rust, from_ours, "the answers of {} differ", name);
     }
     (rust_time, our_time)
@@ -183,13 +187,20 @@ fn patterns(random: &mut Random, rows: usize, columns: usize, mines: usize, coun
 
 // ---- verdicts ----
 
-/// Yes or no, opened cells, grade and rounds by the Rust's functions in the loop of SPECIFICATION 9.
-fn rust_verdict(b: &Board) -> [u64; 4] {
-    let v = verdict(&b.grid, b.start);
-    [v.yes as u64, v.opened as u64, v.grade as u64, v.rounds as u64]
+/// Yes or no, opened cells, grade and rounds are compared, the picture, and the round of each cell.
+impl PartialEq<ours::Verdict> for Verdict {
+    fn eq(&self, ours: &ours::Verdict) -> bool {
+        let counts = [self.yes as u64, self.opened as u64, self.grade as u64, self.rounds as u64];
+        counts == ours.counts && bytes_of(&self.picture) == ours.picture && self.opened_in.concat() == ours.opened_in
+    }
 }
 
-fn our_verdict(b: &Board) -> [u64; 4] {
+/// The verdict by the Rust's functions in the loop of SPECIFICATION 9.
+fn rust_verdict(b: &Board) -> Verdict {
+    verdict(&b.grid, b.start)
+}
+
+fn our_verdict(b: &Board) -> ours::Verdict {
     ours::verdict(b.rows, b.columns, b.start, &b.bytes)
 }
 

@@ -21,7 +21,7 @@ extern "C" {
     fn lihvompa_pattern(rows: usize, columns: usize, cells: *const u8, length: usize, counts: *mut u64, counts_length: usize) -> u8;
     fn lihvompa_verdict(
         rows: usize, columns: usize, start_row: usize, start_column: usize, cells: *const u8, length: usize, picture: *mut u8, picture_length: usize,
-        counts: *mut u64, counts_length: usize,
+        opened_in: *mut u16, opened_in_length: usize, counts: *mut u64, counts_length: usize,
     ) -> u8;
 }
 
@@ -62,14 +62,23 @@ pub fn pattern(rows: usize, columns: usize, cells: &[u8]) -> u64 {
     counts[0]
 }
 
-/// Yes or no, opened cells, grade and rounds.
-pub fn verdict(rows: usize, columns: usize, start: (usize, usize), cells: &[u8]) -> [u64; 4] {
-    let (mut picture, mut counts) = (vec![0; cells.len()], [0; 4]);
+/// All that a verdict writes.
+#[derive(Debug)]
+pub struct Verdict {
+    /// yes or no, opened cells, grade and rounds
+    pub counts: [u64; 4],
+    pub picture: Vec<u8>,
+    pub opened_in: Vec<u16>,
+}
+
+pub fn verdict(rows: usize, columns: usize, start: (usize, usize), cells: &[u8]) -> Verdict {
+    let (mut picture, mut opened_in, mut counts) = (vec![0; cells.len()], vec![0; cells.len()], [0; 4]);
     let refusal = unsafe {
         lihvompa_verdict(
-            rows, columns, start.0, start.1, cells.as_ptr(), cells.len(), picture.as_mut_ptr(), picture.len(), counts.as_mut_ptr(), counts.len(),
+            rows, columns, start.0, start.1, cells.as_ptr(), cells.len(), picture.as_mut_ptr(), picture.len(), opened_in.as_mut_ptr(), opened_in.len(),
+            counts.as_mut_ptr(), counts.len(),
         )
     };
     assert_eq!(refusal, 0);
-    counts
+    Verdict { counts, picture, opened_in }
 }
