@@ -1,0 +1,5 @@
+-- The laws of mine totals, in reading order.
+
+-- sums of sets of numbers, and so many of a list's numbers chosen
+pub mod SumsOfSets
+pub mod ChosenNumbers

@@ -1,0 +1,62 @@
+-- Sums of sets of numbers: `sumsTo` tells exactly whether a number from each set can be had so that they add up. The idea: the number of the first set is
+-- looked for up to the sum, and no summand is greater. Assumes nothing.
+use mathlib.Core.Path.{_≡_, refl, sym}
+use mathlib.Core.Logic.{_↔_}
+use mathlib.Core.Bool.{Bool, true, _&&_}
+use mathlib.Core.List.{List, [], _∷_}
+use Prim.Native.Nat.{ℕ, suc, _+_, _-_}
+use native.Mathlib.Omega.{arith}
+use borrow.Author.Tests.{eqb-true}
+use Rattle.lists.specs.Lists.{range}
+use Rattle.lists.proofs.Tests.{and-left, and-right}
+use Rattle.lists.proofs.Members.{range-in, in-range}
+use Rattle.lists.proofs.Counts.{any-at, any-of}
+use Rattle.search.specs.Solutions.{sum}
+use Rattle.totals.specs.Totals.{sumsTo}
+
+-- no set: the sum is 0
+pub sums-none : sumsTo [] 0 ≡ true
+sums-none = refl
+
+pub none-sums : (n : ℕ) → sumsTo [] n ≡ true → n ≡ 0
+none-sums n h = eqb-true n 0 h
+
+module _ (s : ℕ → Bool) (ss : List (ℕ → Bool)) where
+  -- a number of the first set, and what numbers of the others add up to
+  pub sums-more : (t r : ℕ) → s t ≡ true → sumsTo ss r ≡ true → sumsTo (s ∷ ss) (t + r) ≡ true
+  sums-more t r h k =
+      let rest : t + r - t ≡ r = omega arith in
+      any-of (λ x. s x && sumsTo ss (t + r - x)) (range 0 (suc (t + r))) t (in-range 0 (suc (t + r)) t (omega arith) (omega arith)) (rw (h, rest) k)
+
+  -- and back
+  pub more-sums : (n : ℕ) → sumsTo (s ∷ ss) n ≡ true → (t : ℕ) × (r : ℕ) × (s t ≡ true) × (sumsTo ss r ≡ true) × (t + r ≡ n)
+  more-sums n h =
+      let (t, k, e) = any-at (λ x. s x && sumsTo ss (n - x)) (range 0 (suc n)) h in
+      let (low, high) = range-in 0 (suc n) t k in
+      (t, n - t, and-left (s t) (sumsTo ss (n - t)) e, and-right (s t) (sumsTo ss (n - t)) e, omega arith)
+
+-- ---- as lists of numbers
+
+-- one number from each set, in order
+abbrev pub Picked : List (ℕ → Bool) → List ℕ → Type 0
+Picked [] [] = Unit {0}
+Picked [] (t ∷ ts) = ⊥
+Picked (s ∷ ss) [] = ⊥
+Picked (s ∷ ss) (t ∷ ts) = (s t ≡ true) × Picked ss ts
+
+-- `sumsTo` passes exactly at what such numbers add up to
+pub sums-picked : (ss : List (ℕ → Bool)) (n : ℕ) → (sumsTo ss n ≡ true) ↔ ((ts : List ℕ) × Picked ss ts × (sum ts ≡ n))
+sums-picked ss n = (there ss n, λ (ts, k, e). rw (← e) (back ss ts k))
+  where
+    there : (us : List (ℕ → Bool)) (m : ℕ) → sumsTo us m ≡ true → (ts : List ℕ) × Picked us ts × (sum ts ≡ m)
+    there [] m h = ([], tt, sym (none-sums m h))
+    there (u ∷ us) m h =
+        let (t, r, k, l, e) = more-sums u us m h in
+        let (ts, picked, w) = there us r l in
+        (t ∷ ts, (k, picked), omega arith)
+
+    back : (us : List (ℕ → Bool)) (ts : List ℕ) → Picked us ts → sumsTo us (sum ts) ≡ true
+    back [] [] k = refl
+    back [] (t ∷ ts) k = absurd k
+    back (u ∷ us) [] k = absurd k
+    back (u ∷ us) (t ∷ ts) (h, k) = sums-more u us t (sum ts) h (back us ts k)

@@ -1,0 +1,2 @@
+-- What a mine total leaves to the cells of a block and to the cells beside no open one.
+pub mod Totals
