@@ -3,3 +3,5 @@
 -- sums of sets of numbers, and so many of a list's numbers chosen
 pub mod SumsOfSets
 pub mod ChosenNumbers
+-- one block: its counts, and what they say of a cell
+pub mod BlockCounts

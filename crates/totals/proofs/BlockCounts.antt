@@ -1,0 +1,164 @@
+-- The mine counts of a block: the mines of what solves it are the sum of its row, so the counts of its solutions are the sums of the listed rows. Where a row has a mine
+-- in the group of a cell, or leaves a cell of that group free, something with the same count solves the block and has the cell so: a mine moves within the
+-- group. For a block as it should be (`Proper`). Rests on GroupRows of the crate search and on Groups of the crate fitting. Assumes nothing.
+use mathlib.Core.Path.{_≡_, refl, sym, ap, _∙_}
+use mathlib.Core.Logic.{inl, inr, _≢_}
+use mathlib.Core.Bool.{Bool, true, false, not, cond, _&&_}
+use mathlib.Core.List.{List, [], _∷_, map, List·Memᴰ}
+use Prim.Native.Nat.{ℕ, _+_, _<_}
+use native.Mathlib.Omega.{arith}
+use native.Mathlib.Decide.{decLt}
+use lib.Dec.{eqb}
+use lib.ListN.{length, getD}
+use borrow.Author.Tests.{eqb-true, eq-eqb, ne-eqb, not-true}
+use Rattle.lists.specs.Lists.{bit, count, has, nodup, joined, without}
+use Rattle.lists.proofs.Tests.{Decided, decided, clash}
+use Rattle.lists.proofs.Members.{kept-passes}
+use Rattle.lists.proofs.Counts.{count-none, count-full, count-zero, count-append, count-out, some-passes, some-fails}
+use Rattle.lists.proofs.Occurrences.{any-in, in-any}
+use Rattle.lists.proofs.PlacesAndRanges.{map-read}
+use Rattle.fitting.specs.Equations.{Equation}
+use Rattle.fitting.proofs.Equations.{Solution}
+use Rattle.fitting.proofs.Groups.{times, move, Alike, exchange}
+use Rattle.blocks.specs.Blocks.{Block}
+use Rattle.blocks.proofs.ProperBlocks.{Proper, saysIn, Solves}
+use Rattle.groups.specs.Groups.{groups, groupOf, sizes}
+use Rattle.groups.proofs.GroupLaws.{groups-many, size-at, group-of-block, group-of-below, group-in-equation, in-own-group, groups-rearranged}
+use Rattle.search.specs.Solutions.{sum, solutions}
+use Rattle.search.proofs.GroupRows.{solution-listed, row-has-solution}
+use Rattle.totals.specs.Totals.{possibleCount}
+
+-- ---- lists of numbers
+
+-- counts of several lists add up to the count of all
+pub sum-counts : (f : ℕ → Bool) (ls : List (List ℕ)) → sum (map (λ (l : List ℕ). count f l) ls) ≡ count f (joined ls)
+sum-counts f [] = refl
+sum-counts f (l ∷ ls) = omega (arith, sum-counts f ls, count-append f l (joined ls))
+
+-- how often a number stands in a list with no number twice
+times-once : (c : ℕ) (l : List ℕ) → nodup l ≡ true → times c l ≡ bit (has l c)
+times-once c l once =
+    count-out (λ x. eqb x c) c l once
+    ∙ rw (eq-eqb c c refl, count-zero (λ x. eqb x c) (without c l) (λ x h. not-true (eqb x c) (kept-passes (λ y. not (eqb y c)) l x h)))
+    (same (has l c))
+  where
+    same : (t : Bool) → bit (t && true) + 0 ≡ bit t
+    same true = refl
+    same false = refl
+
+-- one of some cells is a mine: they have some
+pub counts-some : (f : ℕ → Bool) (l : List ℕ) (c : ℕ) → has l c ≡ true → f c ≡ true → 0 < count f l
+counts-some f l c h t =
+    let some : count f l ≢ 0 = (λ e. clash (f c) t (count-none f l e c h)) in
+    omega arith
+
+-- one of them is free: not all are mines
+pub counts-not-all : (f : ℕ → Bool) (l : List ℕ) (c : ℕ) → has l c ≡ true → f c ≡ false → count f l < length l
+counts-not-all f l c h t = go (decLt (count f l) (length l))
+  where
+    go : Dec (count f l < length l) → count f l < length l
+    go (yes e) = e
+    go (no n) = clash (f c) (count-full f l (omega arith) c h) t
+
+-- ---- one block
+
+module _ (b : Block) (proper : Proper b) where
+  -- the row of what solves the block
+  abbrev pub rowOf : (ℕ → Bool) → List ℕ
+  rowOf f = map (λ (g : List ℕ). count f g) (groups b)
+
+  -- it adds up to the mines on the block's cells
+  pub row-sum : (f : ℕ → Bool) → sum (rowOf f) ≡ count f (b .cells)
+  row-sum f = sum-counts f (groups b) ∙ groups-rearranged b f
+
+  -- it has the mines of each cell's group
+  pub row-at : (f : ℕ → Bool) (c : ℕ) → has (b .cells) c ≡ true → getD (rowOf f) (groupOf b c) 0 ≡ count f (getD (groups b) (groupOf b c) [])
+  row-at f c h = map-read (λ (g : List ℕ). count f g) (groups b) (groupOf b c) [] 0 (omega (arith, groups-many b, group-of-below b c h))
+
+  -- the count of a solution is possible
+  pub solution-possible : (f : ℕ → Bool) → Solves f b → possibleCount b (count f (b .cells)) ≡ true
+  unfolding possibleCount
+  solution-possible f s =
+      in-any (λ (row : List ℕ). eqb (sum row) (count f (b .cells))) (solutions b) (solution-listed b proper f s)
+      (eq-eqb (sum (rowOf f)) (count f (b .cells)) (row-sum f))
+
+  -- and a possible count is that of a solution
+  pub possible-solution : (t : ℕ) → possibleCount b t ≡ true → (f : ℕ → Bool) × Solves f b × (count f (b .cells) ≡ t)
+  unfolding possibleCount
+  possible-solution t h =
+      let (row, m, e) = any-in (λ (r : List ℕ). eqb (sum r) t) (solutions b) h in
+      let (f, s, w) = row-has-solution b proper row m in
+      (f, s, sym (row-sum f) ∙ ap sum w ∙ eqb-true (sum row) t e)
+
+  -- ---- a mine moves within a group
+
+  module _ (c : ℕ) (here : has (b .cells) c ≡ true) where
+    abbrev group : List ℕ
+    group = getD (groups b) (groupOf b c) []
+
+    -- two cells of the group stand in the same equations
+    same-equations : (a d : ℕ) → has group a ≡ true → has group d ≡ true → Alike (saysIn b) a d
+    same-equations a d h k i =
+        times-once a (i .0 .cells) (proper .equations-once (i .0) (i .1))
+        ∙ ap bit (group-in-equation b (groupOf b c) a h (i .0) (i .1) ∙ sym (group-in-equation b (groupOf b c) d k (i .0) (i .1)))
+        ∙ sym (times-once d (i .0 .cells) (proper .equations-once (i .0) (i .1)))
+
+    -- so a mine moves from one to another, and the block's count stays
+    moved : (f : ℕ → Bool) (a d : ℕ) → has group a ≡ true → has group d ≡ true → f a ≡ true → f d ≡ false
+        → Solves f b → Solves (move a d f) b × (count (move a d f) (b .cells) ≡ count f (b .cells))
+    moved f a d h k x y s = (
+      exchange (saysIn b) f a d (same-equations a d h k) x y s,
+      let kept : count (move a d f) (b .cells) + 0 ≡ count f (b .cells) = exchange whole f a d alike-whole x y (λ _. omega arith) tt in omega arith,
+    )
+      where
+        -- all cells of the block as one equation
+        whole : Unit {0} → Equation
+        whole _ = record { cells = b .cells; known = 0; number = count f (b .cells) }
+
+        alike-whole : Alike whole a d
+        alike-whole _ =
+            times-once a (b .cells) (proper .once)
+            ∙ ap bit (group-of-block b (groupOf b c) a h ∙ sym (group-of-block b (groupOf b c) d k))
+            ∙ sym (times-once d (b .cells) (proper .once))
+
+    -- ---- what the rows say of a cell
+
+    -- a solution with the cell as v, and with so many mines
+    abbrev pub SolutionWith : ℕ → Bool → Type 0
+    SolutionWith t v = (f : ℕ → Bool) × Solves f b × (count f (b .cells) ≡ t) × (f c ≡ v)
+
+    -- where a row has a mine in the cell's group, some solution of its sum has one at the cell
+    pub row-mine-solution : (row : List ℕ) → List·Memᴰ row (solutions b) → 0 < getD row (groupOf b c) 0 → SolutionWith (sum row) true
+    row-mine-solution row m some =
+        let (f, s, w) = row-has-solution b proper row m in
+        go f s (sym (row-sum f) ∙ ap sum w) (omega (arith, row-at f c here, ap (λ (r : List ℕ). getD r (groupOf b c) 0) w)) (decided (f c))
+      where
+        go : (f : ℕ → Bool) → Solves f b → count f (b .cells) ≡ sum row → 0 < count f group → Decided (f c) → SolutionWith (sum row) true
+        go f s e l (inl x) = (f, s, e, x)
+        go f s e l (inr x) =
+            let (a, k, y) = some-passes f group (omega arith) in
+            let (t, kept) = moved f a c k (in-own-group b c here) y x s in
+            (move a c f, t, kept ∙ e, rw (eq-eqb c c refl))
+
+    -- where a row leaves a cell of the group free, some solution of its sum leaves this one free
+    pub row-free-solution : (row : List ℕ) → List·Memᴰ row (solutions b) → getD row (groupOf b c) 0 < getD (sizes b) (groupOf b c) 0
+        → SolutionWith (sum row) false
+    row-free-solution row m some =
+        let (f, s, w) = row-has-solution b proper row m in
+        go f s (sym (row-sum f) ∙ ap sum w)
+        (omega (arith, row-at f c here, ap (λ (r : List ℕ). getD r (groupOf b c) 0) w, size-at b (groupOf b c))) (decided (f c))
+      where
+        go : (f : ℕ → Bool) → Solves f b → count f (b .cells) ≡ sum row → count f group < length group → Decided (f c) → SolutionWith (sum row) false
+        go f s e l (inr x) = (f, s, e, x)
+        go f s e l (inl x) =
+            let (a, k, y) = some-fails f group (omega arith) in
+            let (t, kept) = moved f c a (in-own-group b c here) k x y s in
+            (move c a f, t, kept ∙ e, rw (ne-eqb c a (λ z. clash (f a) (rw z at x) y), eq-eqb c c refl))
+
+    -- back: a solution with a mine at the cell has one in its group
+    pub solution-mine-row : (f : ℕ → Bool) → f c ≡ true → 0 < getD (rowOf f) (groupOf b c) 0
+    solution-mine-row f x = omega (arith, row-at f c here, counts-some f group c (in-own-group b c here) x)
+
+    -- and one with the cell free leaves a cell of the group free
+    pub solution-free-row : (f : ℕ → Bool) → f c ≡ false → getD (rowOf f) (groupOf b c) 0 < getD (sizes b) (groupOf b c) 0
+    solution-free-row f x = omega (arith, row-at f c here, size-at b (groupOf b c), counts-not-all f group c (in-own-group b c here) x)
