@@ -5,3 +5,5 @@ pub mod SumsOfSets
 pub mod ChosenNumbers
 -- one block: its counts, and what they say of a cell
 pub mod BlockCounts
+-- several blocks that share no cell
+pub mod SeveralBlocks
