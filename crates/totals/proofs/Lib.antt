@@ -7,3 +7,5 @@ pub mod ChosenNumbers
 pub mod BlockCounts
 -- several blocks that share no cell
 pub mod SeveralBlocks
+-- the closed cells of a position, and the mines of a layout that fits it
+pub mod InsideCells
