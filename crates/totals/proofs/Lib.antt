@@ -9,3 +9,7 @@ pub mod BlockCounts
 pub mod SeveralBlocks
 -- the closed cells of a position, and the mines of a layout that fits it
 pub mod InsideCells
+-- a layout from what solves the blocks and mines on the inside cells
+pub mod LayoutParts
+-- what a total leaves to a cell
+pub mod Totals
