@@ -1,9 +1,10 @@
--- The mine counts of a block: the mines of what solves it are the sum of its row, so the counts of its solutions are the sums of the listed rows. Where a row has a mine
--- in the group of a cell, or leaves a cell of that group free, something with the same count solves the block and has the cell so: a mine moves within the
--- group. For a block as it should be (`Proper`). Rests on GroupRows of the crate search and on Groups of the crate fitting. Assumes nothing.
+-- The mine counts of a block: the mines of what solves it add up as its row does, so the counts of its solutions are the sums of the listed rows.
+-- Where a row has a mine in the group of a cell, or leaves a cell of that group free, something of the same count solves the block and has the cell
+-- so: a mine moves within the group. For a block as it should be (`Proper`). Rests on GroupRows of the crate search and Groups of the crate fitting.
+-- Assumes nothing.
 use mathlib.Core.Path.{_≡_, refl, sym, ap, _∙_}
 use mathlib.Core.Logic.{inl, inr, _≢_}
-use mathlib.Core.Bool.{Bool, true, false, not, cond, _&&_}
+use mathlib.Core.Bool.{Bool, true, false, not, _&&_}
 use mathlib.Core.List.{List, [], _∷_, map, List·Memᴰ}
 use Prim.Native.Nat.{ℕ, _+_, _<_}
 use native.Mathlib.Omega.{arith}
@@ -18,7 +19,6 @@ use Rattle.lists.proofs.Counts.{count-none, count-full, count-zero, count-appen
 use Rattle.lists.proofs.Occurrences.{any-in, in-any}
 use Rattle.lists.proofs.PlacesAndRanges.{map-read}
 use Rattle.fitting.specs.Equations.{Equation}
-use Rattle.fitting.proofs.Equations.{Solution}
 use Rattle.fitting.proofs.Groups.{times, move, Alike, exchange}
 use Rattle.blocks.specs.Blocks.{Block}
 use Rattle.blocks.proofs.ProperBlocks.{Proper, saysIn, Solves}
@@ -31,7 +31,7 @@ use Rattle.totals.specs.Totals.{possibleCount}
 -- ---- lists of numbers
 
 -- counts of several lists add up to the count of all
-pub sum-counts : (f : ℕ → Bool) (ls : List (List ℕ)) → sum (map (λ (l : List ℕ). count f l) ls) ≡ count f (joined ls)
+sum-counts : (f : ℕ → Bool) (ls : List (List ℕ)) → sum (map (λ (l : List ℕ). count f l) ls) ≡ count f (joined ls)
 sum-counts f [] = refl
 sum-counts f (l ∷ ls) = omega (arith, sum-counts f ls, count-append f l (joined ls))
 
@@ -47,40 +47,59 @@ times-once c l once =
     same false = refl
 
 -- one of some cells is a mine: they have some
-pub counts-some : (f : ℕ → Bool) (l : List ℕ) (c : ℕ) → has l c ≡ true → f c ≡ true → 0 < count f l
+counts-some : (f : ℕ → Bool) (l : List ℕ) (c : ℕ) → has l c ≡ true → f c ≡ true → 0 < count f l
 counts-some f l c h t =
     let some : count f l ≢ 0 = (λ e. clash (f c) t (count-none f l e c h)) in
     omega arith
 
 -- one of them is free: not all are mines
-pub counts-not-all : (f : ℕ → Bool) (l : List ℕ) (c : ℕ) → has l c ≡ true → f c ≡ false → count f l < length l
+counts-not-all : (f : ℕ → Bool) (l : List ℕ) (c : ℕ) → has l c ≡ true → f c ≡ false → count f l < length l
 counts-not-all f l c h t = go (decLt (count f l) (length l))
   where
     go : Dec (count f l < length l) → count f l < length l
     go (yes e) = e
     go (no n) = clash (f c) (count-full f l (omega arith) c h) t
 
--- ---- one block
+-- ---- rows
 
-module _ (b : Block) (proper : Proper b) where
-  -- the row of what solves the block
+-- something that solves the block with t mines, and has the cell c as v says
+abbrev pub SolutionWith : Block → ℕ → ℕ → Bool → Type 0
+SolutionWith b t c v = (f : ℕ → Bool) × Solves f b × (count f (b .cells) ≡ t) × (f c ≡ v)
+
+module _ (b : Block) where
+  -- the mines of a placing, group by group
   abbrev pub rowOf : (ℕ → Bool) → List ℕ
   rowOf f = map (λ (g : List ℕ). count f g) (groups b)
 
-  -- it adds up to the mines on the block's cells
+  -- they add up to the mines on the block's cells
   pub row-sum : (f : ℕ → Bool) → sum (rowOf f) ≡ count f (b .cells)
   row-sum f = sum-counts f (groups b) ∙ groups-rearranged b f
 
-  -- it has the mines of each cell's group
-  pub row-at : (f : ℕ → Bool) (c : ℕ) → has (b .cells) c ≡ true → getD (rowOf f) (groupOf b c) 0 ≡ count f (getD (groups b) (groupOf b c) [])
-  row-at f c h = map-read (λ (g : List ℕ). count f g) (groups b) (groupOf b c) [] 0 (omega (arith, groups-many b, group-of-below b c h))
+  module _ (c : ℕ) (here : has (b .cells) c ≡ true) where
+    -- the cells of the cell's group
+    abbrev group : List ℕ
+    group = getD (groups b) (groupOf b c) []
 
+    row-at : (f : ℕ → Bool) → getD (rowOf f) (groupOf b c) 0 ≡ count f group
+    row-at f = map-read (λ (g : List ℕ). count f g) (groups b) (groupOf b c) [] 0 (omega (arith, groups-many b, group-of-below b c here))
+
+    -- a mine at the cell is one in its group
+    pub mine-in-row : (f : ℕ → Bool) → f c ≡ true → 0 < getD (rowOf f) (groupOf b c) 0
+    mine-in-row f x = omega (arith, row-at f, counts-some f group c (in-own-group b c here) x)
+
+    -- and the cell free is a free cell in its group
+    pub free-in-row : (f : ℕ → Bool) → f c ≡ false → getD (rowOf f) (groupOf b c) 0 < getD (sizes b) (groupOf b c) 0
+    free-in-row f x = omega (arith, row-at f, size-at b (groupOf b c), counts-not-all f group c (in-own-group b c here) x)
+
+-- ---- what solves a block
+
+module _ (b : Block) (proper : Proper b) where
   -- the count of a solution is possible
   pub solution-possible : (f : ℕ → Bool) → Solves f b → possibleCount b (count f (b .cells)) ≡ true
   unfolding possibleCount
   solution-possible f s =
       in-any (λ (row : List ℕ). eqb (sum row) (count f (b .cells))) (solutions b) (solution-listed b proper f s)
-      (eq-eqb (sum (rowOf f)) (count f (b .cells)) (row-sum f))
+      (eq-eqb (sum (rowOf b f)) (count f (b .cells)) (row-sum b f))
 
   -- and a possible count is that of a solution
   pub possible-solution : (t : ℕ) → possibleCount b t ≡ true → (f : ℕ → Bool) × Solves f b × (count f (b .cells) ≡ t)
@@ -88,23 +107,23 @@ module _ (b : Block) (proper : Proper b) where
   possible-solution t h =
       let (row, m, e) = any-in (λ (r : List ℕ). eqb (sum r) t) (solutions b) h in
       let (f, s, w) = row-has-solution b proper row m in
-      (f, s, sym (row-sum f) ∙ ap sum w ∙ eqb-true (sum row) t e)
-
-  -- ---- a mine moves within a group
+      (f, s, sym (row-sum b f) ∙ ap sum w ∙ eqb-true (sum row) t e)
 
   module _ (c : ℕ) (here : has (b .cells) c ≡ true) where
-    abbrev group : List ℕ
-    group = getD (groups b) (groupOf b c) []
+    -- ---- a mine moves within the cell's group
+
+    abbrev members : List ℕ
+    members = group b c here
 
     -- two cells of the group stand in the same equations
-    same-equations : (a d : ℕ) → has group a ≡ true → has group d ≡ true → Alike (saysIn b) a d
+    same-equations : (a d : ℕ) → has members a ≡ true → has members d ≡ true → Alike (saysIn b) a d
     same-equations a d h k i =
         times-once a (i .0 .cells) (proper .equations-once (i .0) (i .1))
         ∙ ap bit (group-in-equation b (groupOf b c) a h (i .0) (i .1) ∙ sym (group-in-equation b (groupOf b c) d k (i .0) (i .1)))
         ∙ sym (times-once d (i .0 .cells) (proper .equations-once (i .0) (i .1)))
 
     -- so a mine moves from one to another, and the block's count stays
-    moved : (f : ℕ → Bool) (a d : ℕ) → has group a ≡ true → has group d ≡ true → f a ≡ true → f d ≡ false
+    moved : (f : ℕ → Bool) (a d : ℕ) → has members a ≡ true → has members d ≡ true → f a ≡ true → f d ≡ false
         → Solves f b → Solves (move a d f) b × (count (move a d f) (b .cells) ≡ count f (b .cells))
     moved f a d h k x y s = (
       exchange (saysIn b) f a d (same-equations a d h k) x y s,
@@ -121,44 +140,34 @@ module _ (b : Block) (proper : Proper b) where
             ∙ ap bit (group-of-block b (groupOf b c) a h ∙ sym (group-of-block b (groupOf b c) d k))
             ∙ sym (times-once d (b .cells) (proper .once))
 
-    -- ---- what the rows say of a cell
+    -- ---- what the rows say of the cell
 
-    -- a solution with the cell as v, and with so many mines
-    abbrev pub SolutionWith : ℕ → Bool → Type 0
-    SolutionWith t v = (f : ℕ → Bool) × Solves f b × (count f (b .cells) ≡ t) × (f c ≡ v)
+    module _ (row : List ℕ) (in-solutions : List·Memᴰ row (solutions b)) where
+      -- a solution with these mine counts
+      row-solution : (f : ℕ → Bool) × Solves f b × (count f (b .cells) ≡ sum row) × (count f members ≡ getD row (groupOf b c) 0)
+      row-solution =
+          let (f, s, w) = row-has-solution b proper row in-solutions in
+          (f, s, sym (row-sum b f) ∙ ap sum w, sym (row-at b c here f) ∙ ap (λ (r : List ℕ). getD r (groupOf b c) 0) w)
 
-    -- where a row has a mine in the cell's group, some solution of its sum has one at the cell
-    pub row-mine-solution : (row : List ℕ) → List·Memᴰ row (solutions b) → 0 < getD row (groupOf b c) 0 → SolutionWith (sum row) true
-    row-mine-solution row m some =
-        let (f, s, w) = row-has-solution b proper row m in
-        go f s (sym (row-sum f) ∙ ap sum w) (omega (arith, row-at f c here, ap (λ (r : List ℕ). getD r (groupOf b c) 0) w)) (decided (f c))
-      where
-        go : (f : ℕ → Bool) → Solves f b → count f (b .cells) ≡ sum row → 0 < count f group → Decided (f c) → SolutionWith (sum row) true
-        go f s e l (inl x) = (f, s, e, x)
-        go f s e l (inr x) =
-            let (a, k, y) = some-passes f group (omega arith) in
-            let (t, kept) = moved f a c k (in-own-group b c here) y x s in
-            (move a c f, t, kept ∙ e, rw (eq-eqb c c refl))
+      -- where the row has a mine in the cell's group, some solution of its sum has one at the cell
+      pub row-mine : 0 < getD row (groupOf b c) 0 → SolutionWith b (sum row) c true
+      row-mine some = let (f, s, e, w) = row-solution in go f s e (omega arith) (decided (f c))
+        where
+          go : (f : ℕ → Bool) → Solves f b → count f (b .cells) ≡ sum row → 0 < count f members → Decided (f c) → SolutionWith b (sum row) c true
+          go f s e l (inl x) = (f, s, e, x)
+          go f s e l (inr x) =
+              let (a, k, y) = some-passes f members (omega arith) in
+              let (t, kept) = moved f a c k (in-own-group b c here) y x s in
+              (move a c f, t, kept ∙ e, rw (eq-eqb c c refl))
 
-    -- where a row leaves a cell of the group free, some solution of its sum leaves this one free
-    pub row-free-solution : (row : List ℕ) → List·Memᴰ row (solutions b) → getD row (groupOf b c) 0 < getD (sizes b) (groupOf b c) 0
-        → SolutionWith (sum row) false
-    row-free-solution row m some =
-        let (f, s, w) = row-has-solution b proper row m in
-        go f s (sym (row-sum f) ∙ ap sum w)
-        (omega (arith, row-at f c here, ap (λ (r : List ℕ). getD r (groupOf b c) 0) w, size-at b (groupOf b c))) (decided (f c))
-      where
-        go : (f : ℕ → Bool) → Solves f b → count f (b .cells) ≡ sum row → count f group < length group → Decided (f c) → SolutionWith (sum row) false
-        go f s e l (inr x) = (f, s, e, x)
-        go f s e l (inl x) =
-            let (a, k, y) = some-fails f group (omega arith) in
-            let (t, kept) = moved f c a (in-own-group b c here) k x y s in
-            (move c a f, t, kept ∙ e, rw (ne-eqb c a (λ z. clash (f a) (rw z at x) y), eq-eqb c c refl))
-
-    -- back: a solution with a mine at the cell has one in its group
-    pub solution-mine-row : (f : ℕ → Bool) → f c ≡ true → 0 < getD (rowOf f) (groupOf b c) 0
-    solution-mine-row f x = omega (arith, row-at f c here, counts-some f group c (in-own-group b c here) x)
-
-    -- and one with the cell free leaves a cell of the group free
-    pub solution-free-row : (f : ℕ → Bool) → f c ≡ false → getD (rowOf f) (groupOf b c) 0 < getD (sizes b) (groupOf b c) 0
-    solution-free-row f x = omega (arith, row-at f c here, size-at b (groupOf b c), counts-not-all f group c (in-own-group b c here) x)
+      -- where it leaves a cell of the group free, some solution of its sum leaves this one free
+      pub row-free : getD row (groupOf b c) 0 < getD (sizes b) (groupOf b c) 0 → SolutionWith b (sum row) c false
+      row-free some = let (f, s, e, w) = row-solution in go f s e (omega (arith, size-at b (groupOf b c))) (decided (f c))
+        where
+          go : (f : ℕ → Bool) → Solves f b → count f (b .cells) ≡ sum row → count f members < length members → Decided (f c)
+              → SolutionWith b (sum row) c false
+          go f s e l (inr x) = (f, s, e, x)
+          go f s e l (inl x) =
+              let (a, k, y) = some-fails f members (omega arith) in
+              let (t, kept) = moved f c a (in-own-group b c here) k x y s in
+              (move c a f, t, kept ∙ e, rw (ne-eqb c a (λ z. clash (f a) (rw z at x) y), eq-eqb c c refl))

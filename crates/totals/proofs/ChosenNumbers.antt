@@ -1,6 +1,6 @@
--- So many of a list's numbers chosen: any number up to the list's length can be had, with one number of the list held chosen or held out. The idea: the number is
+-- So many of a list's numbers chosen: any number up to the list's length can be had, with one of them held chosen or held out. The idea: that one is
 -- taken out of the list, and so many of the rest are chosen. For a list with no number twice. Assumes nothing.
-use mathlib.Core.Path.{_≡_, refl, sym, ap, _∙_}
+use mathlib.Core.Path.{_≡_, refl, _∙_}
 use mathlib.Core.Bool.{Bool, true, false, not, cond}
 use mathlib.Core.List.{List, [], _∷_}
 use Prim.Native.Nat.{ℕ, zero, suc, _+_, _≤_}
@@ -8,7 +8,7 @@ use native.Mathlib.Nat.{not-suc-le-zero, le-of-suc-le-suc}
 use native.Mathlib.Omega.{arith}
 use lib.Dec.{eqb}
 use lib.ListN.{length}
-use borrow.Author.Tests.{eqb-false, eq-eqb, ne-eqb, not-true}
+use borrow.Author.Tests.{eq-eqb, ne-eqb, not-true}
 use Rattle.lists.specs.Lists.{bit, count, has, nodup, without}
 use Rattle.lists.proofs.Tests.{clash}
 use Rattle.lists.proofs.Members.{kept-passes, nodup-head, nodup-tail, nodup-keep}
@@ -16,10 +16,10 @@ use Rattle.lists.proofs.Counts.{count-ext, count-zero, count-out}
 use Rattle.lists.proofs.Rearranged.{count-all}
 
 -- the test f, but v at c
-abbrev pub heldAt : ℕ → Bool → (ℕ → Bool) → ℕ → Bool
+abbrev heldAt : ℕ → Bool → (ℕ → Bool) → ℕ → Bool
 heldAt c v f x = cond (eqb x c) v (f x)
 
-pub held-own : (c : ℕ) (v : Bool) (f : ℕ → Bool) → heldAt c v f c ≡ v
+held-own : (c : ℕ) (v : Bool) (f : ℕ → Bool) → heldAt c v f c ≡ v
 held-own c v f = rw (eq-eqb c c refl)
 
 -- so many chosen

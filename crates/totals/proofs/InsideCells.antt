@@ -1,15 +1,15 @@
--- The closed cells are those of the frontier and those beside no open cell, the inside cells, and none is both; so the mines of a layout that fits are the known ones, those on
--- the frontier's cells and those on the inside cells. `near` is mutual on the board: an open cell that has a closed one beside it stands beside that one.
--- Rests on Coverage of the crate frontier. Assumes nothing.
-use mathlib.Core.Path.{_≡_, refl, sym, ap, _∙_}
+-- The closed cells are those of the frontier and those beside no open cell, the inside cells, and none is both; so the mines of a layout that fits
+-- are the known ones, those on the frontier and those on the inside cells. `near` is mutual on the board: an open cell that lists a closed one stands
+-- beside it. Rests on Coverage of the crate frontier. Assumes nothing.
+use mathlib.Core.Path.{_≡_, ap, _∙_}
 use mathlib.Core.Logic.{_⊎_, inl, inr}
-use mathlib.Core.Bool.{Bool, true, false, not, cond, _&&_, _||_}
+use mathlib.Core.Bool.{Bool, true, false, not, _&&_, _||_}
 use mathlib.Core.List.{List, _++_}
 use Prim.Native.Nat.{ℕ, _+_, _≤_, _<_}
 use native.Mathlib.Omega.{arith}
 use lib.Dec.{leb, eqb}
 use lib.ListN.{length}
-use borrow.Author.Tests.{eqb-true, eqb-false, eq-eqb, leb-true, le-leb, not-true}
+use borrow.Author.Tests.{eqb-true, eq-eqb, leb-true, le-leb, not-true}
 use Rattle.lists.specs.Lists.{range, keep, count, any, has, nodup}
 use Rattle.lists.proofs.Tests.{Decided, decided, clash, same-test, and-left, and-right}
 use Rattle.lists.proofs.Members.{has-append, has-keep, kept-passes, has-kept, nodup-keep, nodup-append, in-range, range-nodup}

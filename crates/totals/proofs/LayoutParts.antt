@@ -1,12 +1,12 @@
--- A layout from its parts: what solves every block of the frontier, with any mines on the inside cells, is a layout that fits, and its mines are the known ones and those of
--- both parts. The idea: what solves every block gives each open cell with a closed neighbour its number; an open cell without one has its number in any
--- layout that fits, so one is asked for. Rests on InsideCells, and on JoinedBlocks of the crate frontier. Assumes nothing.
+-- A layout from its parts: what solves every block of the frontier, with any mines on the inside cells, gives a layout that fits, and its mines are
+-- the known ones and those of both parts. The idea: what solves every block gives each open cell with a closed neighbour its number; an open cell
+-- without one has its number whatever the closed cells hold, or never: so one layout that fits is asked for. Rests on InsideCells, and JoinedBlocks
+-- of the crate frontier. Assumes nothing.
 use mathlib.Core.Path.{_≡_, _∙_}
 use mathlib.Core.Logic.{inl, inr}
 use mathlib.Core.Bool.{Bool, true, false}
-use mathlib.Core.List.{List, List·Memᴰ}
+use mathlib.Core.List.{List}
 use Prim.Native.Nat.{ℕ, _+_, _≤_, _<_}
-use native.Mathlib.Omega.{arith}
 use lib.ListN.{length}
 use borrow.Author.Tests.{le-leb}
 use Rattle.lists.specs.Lists.{count, empty, has, nodup}
@@ -25,15 +25,15 @@ use Rattle.frontier.proofs.BlockLaws.{frontier-proper}
 use Rattle.frontier.proofs.Coverage.{frontier-closed}
 use Rattle.frontier.proofs.JoinedBlocks.{SolvesEach, blocks-solve}
 use Rattle.totals.specs.Totals.{isInside}
-use Rattle.totals.proofs.SeveralBlocks.{onCells, count-on, same-solves}
+use Rattle.totals.proofs.SeveralBlocks.{onCells, same-solves}
 use Rattle.totals.proofs.InsideCells.{insideList, inside-closed, inside-listed, listed-inside, frontier-not-inside, mines-parted}
 
 module _ (near : ℕ → List ℕ) (p : List ℕ) (once : (c : ℕ) → nodup (near c) ≡ true) (few : (c : ℕ) → length (near c) ≤ 8)
     (mutually : (c d : ℕ) → d < length p → has (near d) c ≡ true → has (near c) d ≡ true)
     (some : List Bool) (fit : Fits near p some) where
   -- what solves every block gives a layout that fits
-  pub blocks-fit : (f : ℕ → Bool) → SolvesEach f (frontier near p) → Fits near p (layoutOf p f)
-  blocks-fit f s = holds-fits near p f (λ d o. go d o (decided (empty (closedNear near p d))))
+  pub solved-blocks-fit : (f : ℕ → Bool) → SolvesEach f (frontier near p) → Fits near p (layoutOf p f)
+  solved-blocks-fit f s = holds-fits near p f (λ d o. go d o (decided (empty (closedNear near p d))))
     where
       go : (d : ℕ) → shows p d ≤ 8 → Decided (empty (closedNear near p d)) → Holds f (equationAt near p d)
       go d o (inl e) =
@@ -60,7 +60,7 @@ module _ (near : ℕ → List ℕ) (p : List ℕ) (once : (c : ℕ) → nodup (n
     -- the layout fits
     pub layout-from-fits : Fits near p layoutFrom
     layout-from-fits =
-        blocks-fit placing (λ b m. same-solves b (frontier-proper near p b m) placing f
+        solved-blocks-fit placing (λ b m. same-solves b (frontier-proper near p b m) placing f
         (λ c h. rw (not-listed c (block-cell (frontier near p) b c m h))) (solves b m))
 
     -- it has f at the frontier's cells

@@ -1,6 +1,6 @@
--- Several blocks that share no cell: what their mine counts may add up to is exactly what one placing of mines that solves them all has on their cells. The idea: a
--- solution of each block, put together, solves them all, and a block's count is that of its own solution. Then one block, the i-th, and the others.
--- For blocks as they should be (`Proper`). Rests on SumsOfSets and BlockCounts. Assumes nothing.
+-- Several blocks that share no cell: what their mine counts may add up to is exactly what one placing of mines that solves them all has on their
+-- cells. The idea: a solution of each block, put together, solves them all, and a block's count is that of its own solution. Then one block, the
+-- i-th, and the others. For blocks as they should be (`Proper`). Rests on SumsOfSets and BlockCounts. Assumes nothing.
 use mathlib.Core.Path.{_≡_, refl, sym, ap, _∙_, subst}
 use mathlib.Core.Logic.{_⊎_, inl, inr}
 use mathlib.Core.Bool.{Bool, true, false, cond}
@@ -37,15 +37,15 @@ onCells cells g h c = cond (has cells c) (g c) (h c)
 
 module _ (k l : List ℕ) (g h : ℕ → Bool) where
   -- on these cells it counts as g
-  pub count-on : count (onCells k g h) k ≡ count g k
+  count-on : count (onCells k g h) k ≡ count g k
   count-on = count-ext (onCells k g h) g k (λ c e. rw e)
 
   -- and where none of them stands, as h
-  pub count-off : ((c : ℕ) → has l c ≡ true → has k c ≡ false) → count (onCells k g h) l ≡ count h l
+  count-off : ((c : ℕ) → has l c ≡ true → has k c ≡ false) → count (onCells k g h) l ≡ count h l
   count-off apart = count-ext (onCells k g h) h l (λ c e. rw (apart c e))
 
 -- no number stands in both of two lists that together have none twice
-pub other-side : (k l : List ℕ) → nodup (k ++ l) ≡ true → (c : ℕ) → has l c ≡ true → has k c ≡ false
+other-side : (k l : List ℕ) → nodup (k ++ l) ≡ true → (c : ℕ) → has l c ≡ true → has k c ≡ false
 other-side k l once c h = go (decided (has k c))
   where
     go : Decided (has k c) → has k c ≡ false
@@ -67,7 +67,8 @@ module _ (b : Block) (bs : List Block) (proper : Proper b) (each : ProperEach bs
   -- and the others
   pub joined-others : SolvesEach (onCells (b .cells) g h) bs
   joined-others x m =
-      same-solves x (each x m) (onCells (b .cells) g h) h (λ c e. rw (other-side (b .cells) (allCells bs) once c (block-cell bs x c m e))) (others x m)
+      same-solves x (each x m) (onCells (b .cells) g h) h
+      (λ c e. rw (other-side (b .cells) (allCells bs) once c (block-cell bs x c m e))) (others x m)
 
   -- and has the mines of both
   pub joined-count : count (onCells (b .cells) g h) (b .cells ++ allCells bs) ≡ count g (b .cells) + count h (allCells bs)
@@ -78,7 +79,8 @@ module _ (b : Block) (bs : List Block) (proper : Proper b) (each : ProperEach bs
 -- ---- what several blocks add up to
 
 -- the mines of what solves them all are a sum of possible counts
-pub solutions-sum : (bs : List Block) → ProperEach bs → (f : ℕ → Bool) → SolvesEach f bs → sumsTo (map possibleCount bs) (count f (allCells bs)) ≡ true
+pub solutions-sum : (bs : List Block) → ProperEach bs → (f : ℕ → Bool) → SolvesEach f bs
+    → sumsTo (map possibleCount bs) (count f (allCells bs)) ≡ true
 solutions-sum [] each f s = refl
 solutions-sum (b ∷ bs) each f s =
     rw (count-append f (b .cells) (allCells bs))
@@ -93,8 +95,7 @@ sum-solutions [] each once n h = (λ _. false, λ b m. absurd (List·Memᴰ·not
 sum-solutions (b ∷ bs) each once n h =
     let (t, r, k, l, e) = more-sums (possibleCount b) (map possibleCount bs) n h in
     let (g, own, v) = possible-solution b (each b (List·Memᴰ·head refl)) t k in
-    let (f, others, w) = sum-solutions bs rest (among-nodup (allCells bs) (allCells (b ∷ bs)) (among-right (b .cells) (allCells bs)) once) r l in
-    (
+    let (f, others, w) = sum-solutions bs rest (among-nodup (allCells bs) (allCells (b ∷ bs)) (among-right (b .cells) (allCells bs)) once) r l in (
       onCells (b .cells) g f,
       λ x m. go g f own others x (List·Memᴰ·cases-cons m),
       joined-count b bs (each b (List·Memᴰ·head refl)) rest once g f own others ∙ rw (v, w, e),
@@ -144,6 +145,6 @@ module _ (bs : List Block) (i : ℕ) (within : i < length bs) where
         count-append f (blockThere .cells) (allCells (drop (suc i) bs)),
         count-append f (blockThere .cells) (allCells (othersThan i bs)),
         ap (count f) (ap joined (map-append (λ (b : Block). b .cells) (take i bs) (drop (suc i) bs))
-        ∙ joined-append (map (λ (b : Block). b .cells) (take i bs)) (map (λ (b : Block). b .cells) (drop (suc i) bs))),
+            ∙ joined-append (map (λ (b : Block). b .cells) (take i bs)) (map (λ (b : Block). b .cells) (drop (suc i) bs))),
         count-append f (allCells (take i bs)) (allCells (drop (suc i) bs)),
       )

@@ -1,23 +1,21 @@
--- Sums of sets of numbers: `sumsTo` tells exactly whether a number from each set can be had so that they add up. The idea: the number of the first set is
--- looked for up to the sum, and no summand is greater. Assumes nothing.
-use mathlib.Core.Path.{_≡_, refl, sym}
+-- Sums of sets of numbers: `sumsTo` tells exactly whether a number from each set can be had so that they add up, in whatever order the sets stand.
+-- The idea: the number of the first set is looked for up to the sum, and no summand is greater. Assumes nothing.
+use mathlib.Core.Path.{_≡_, refl, sym, ap, _∙_}
 use mathlib.Core.Logic.{_↔_}
 use mathlib.Core.Bool.{Bool, true, _&&_}
-use mathlib.Core.List.{List, [], _∷_}
+use mathlib.Core.List.{List, [], _∷_, _++_}
 use Prim.Native.Nat.{ℕ, suc, _+_, _-_}
 use native.Mathlib.Omega.{arith}
 use borrow.Author.Tests.{eqb-true}
 use Rattle.lists.specs.Lists.{range}
-use Rattle.lists.proofs.Tests.{and-left, and-right}
+use Rattle.lists.proofs.Tests.{same-test, and-left, and-right}
 use Rattle.lists.proofs.Members.{range-in, in-range}
 use Rattle.lists.proofs.Counts.{any-at, any-of}
+use Rattle.lists.proofs.Kept.{any-ext}
 use Rattle.search.specs.Solutions.{sum}
 use Rattle.totals.specs.Totals.{sumsTo}
 
 -- no set: the sum is 0
-pub sums-none : sumsTo [] 0 ≡ true
-sums-none = refl
-
 pub none-sums : (n : ℕ) → sumsTo [] n ≡ true → n ≡ 0
 none-sums n h = eqb-true n 0 h
 
@@ -34,6 +32,24 @@ module _ (s : ℕ → Bool) (ss : List (ℕ → Bool)) where
       let (t, k, e) = any-at (λ x. s x && sumsTo ss (n - x)) (range 0 (suc n)) h in
       let (low, high) = range-in 0 (suc n) t k in
       (t, n - t, and-left (s t) (sumsTo ss (n - t)) e, and-right (s t) (sumsTo ss (n - t)) e, omega arith)
+
+-- ---- the order of the sets
+
+-- two sets change places
+sums-swapped : (s t : ℕ → Bool) (ss : List (ℕ → Bool)) (n : ℕ) → sumsTo (s ∷ (t ∷ ss)) n ≡ true → sumsTo (t ∷ (s ∷ ss)) n ≡ true
+sums-swapped s t ss n h =
+    let (a, q, x, k, e) = more-sums s (t ∷ ss) n h in
+    let (b, r, y, l, w) = more-sums t ss q k in
+    let same : n ≡ b + (a + r) = omega arith in
+    rw same (sums-more t (s ∷ ss) b (a + r) y (sums-more s ss a r x l))
+
+-- a set goes to the front: the order of the sets does not matter
+pub sums-moved : (ss : List (ℕ → Bool)) (s : ℕ → Bool) (ts : List (ℕ → Bool)) (n : ℕ) → sumsTo (ss ++ (s ∷ ts)) n ≡ sumsTo (s ∷ (ss ++ ts)) n
+sums-moved [] s ts n = refl
+sums-moved (u ∷ ss) s ts n =
+    any-ext (λ t. u t && sumsTo (ss ++ (s ∷ ts)) (n - t)) (λ t. u t && sumsTo (s ∷ (ss ++ ts)) (n - t)) (range 0 (suc n))
+    (λ t _. ap (λ (x : Bool). u t && x) (sums-moved ss s ts (n - t)))
+    ∙ same-test (sumsTo (u ∷ (s ∷ (ss ++ ts))) n) (sumsTo (s ∷ (u ∷ (ss ++ ts))) n) (sums-swapped u s (ss ++ ts) n) (sums-swapped s u (ss ++ ts) n)
 
 -- ---- as lists of numbers
 

@@ -1,5 +1,5 @@
--- Cited by no public contract. What a mine total leaves to each closed cell: the mine counts that a block may have, what the counts of several blocks may add up to,
--- and whether some solution of a block, with what the other blocks and the cells beside no open one can hold, makes up the total. `near` gives the
+-- Cited by no public contract. What a mine total leaves to each closed cell: the mine counts that a block may have, what the counts of several blocks
+-- may add up to, and whether some solution of a block, with what the other blocks and the inside cells can hold, makes up the total. `near` gives the
 -- neighbours of a cell, p is the position. Assumes nothing.
 use mathlib.Core.Bool.{Bool, not, _&&_}
 use mathlib.Core.List.{List, [], _∷_, _++_, map}
@@ -65,4 +65,6 @@ insideMine near p total =
 
 -- and free where they can hold all of them
 unfoldable pub insideFree : (ℕ → List ℕ) → List ℕ → ℕ → Bool
-insideFree near p total = leb 1 (insideCells near p) && sumsTo (upTo (insideCells near p - 1) ∷ map possibleCount (frontier near p)) (minesLeft total p)
+insideFree near p total =
+    leb 1 (insideCells near p)
+    && sumsTo (upTo (insideCells near p - 1) ∷ map possibleCount (frontier near p)) (minesLeft total p)
