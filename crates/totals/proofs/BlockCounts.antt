@@ -6,7 +6,7 @@ use mathlib.Core.Path.{_≡_, refl, sym, ap, _∙_}
 use mathlib.Core.Logic.{inl, inr, _≢_}
 use mathlib.Core.Bool.{Bool, true, false, not, _&&_}
 use mathlib.Core.List.{List, [], _∷_, map, List·Memᴰ}
-use Prim.Native.Nat.{ℕ, _+_, _<_}
+use Prim.Native.Nat.{ℕ, _+_, _≤_, _<_}
 use native.Mathlib.Omega.{arith}
 use native.Mathlib.Decide.{decLt}
 use lib.Dec.{eqb}
@@ -15,7 +15,7 @@ use borrow.Author.Tests.{eqb-true, eq-eqb, ne-eqb, not-true}
 use Rattle.lists.specs.Lists.{bit, count, has, nodup, joined, without}
 use Rattle.lists.proofs.Tests.{Decided, decided, clash}
 use Rattle.lists.proofs.Members.{kept-passes}
-use Rattle.lists.proofs.Counts.{count-none, count-full, count-zero, count-append, count-out, some-passes, some-fails}
+use Rattle.lists.proofs.Counts.{count-le, count-none, count-full, count-zero, count-append, count-out, some-passes, some-fails}
 use Rattle.lists.proofs.Occurrences.{any-in, in-any}
 use Rattle.lists.proofs.PlacesAndRanges.{map-read}
 use Rattle.fitting.specs.Equations.{Equation}
@@ -108,6 +108,10 @@ module _ (b : Block) (proper : Proper b) where
       let (row, m, e) = any-in (λ (r : List ℕ). eqb (sum r) t) (solutions b) h in
       let (f, s, w) = row-has-solution b proper row m in
       (f, s, sym (row-sum b f) ∙ ap sum w ∙ eqb-true (sum row) t e)
+
+  -- so it is no more than the block's cells
+  pub possible-at-most : (t : ℕ) → possibleCount b t ≡ true → t ≤ length (b .cells)
+  possible-at-most t h = let (f, s, e) = possible-solution t h in omega (arith, count-le f (b .cells))
 
   module _ (c : ℕ) (here : has (b .cells) c ≡ true) where
     -- ---- a mine moves within the cell's group

@@ -54,14 +54,14 @@ module _ (near : ℕ → List ℕ) (p : List ℕ) (once : (c : ℕ) → nodup (n
   -- what solves every block, and mines on the inside cells: where they are as many as are left, a layout of the total has them
   module _ (f g : ℕ → Bool) (solves : SolvesEach f (frontier near p))
       (left : count f (allCells (frontier near p)) + count g (insideList near p) ≡ minesLeft total p) where
-    made : count (λ x. x) (layoutFrom near p once few mutually some fit f solves g) ≡ total
-    made = omega (arith, layout-from-mines near p once few mutually some fit f solves g)
+    layout-from-total : count (λ x. x) (layoutFrom near p once few mutually some fit f solves g) ≡ total
+    layout-from-total = omega (arith, layout-from-mines near p once few mutually some fit f solves g)
 
     frontier-layout : (c : ℕ) → has (allCells (frontier near p)) c ≡ true → LayoutOfTotal near p total c (f c)
     frontier-layout c h = (
       layoutFrom near p once few mutually some fit f solves g,
       layout-from-fits near p once few mutually some fit f solves g,
-      made,
+      layout-from-total,
       layout-from-frontier near p once few mutually some fit f solves g c h,
     )
 
@@ -69,7 +69,7 @@ module _ (near : ℕ → List ℕ) (p : List ℕ) (once : (c : ℕ) → nodup (n
     inside-layout c h = (
       layoutFrom near p once few mutually some fit f solves g,
       layout-from-fits near p once few mutually some fit f solves g,
-      made,
+      layout-from-total,
       layout-from-inside near p once few mutually some fit f solves g c h,
     )
 
