@@ -5,7 +5,7 @@ use Rattle.lists.specs.Lists.{all, rotated}
 use Rattle.grid.specs.Window.{around, neighbours}
 use Rattle.refusals.specs.Tests.{sizeOk, lengthOk, roomOk, boardCellsOk, positionCellsOk, startOk, numbersOk, startCell, startSafe, boardTested, positionTested, deductionTested, patternTested}
 use Rattle.fitting.specs.Layouts.{fits, freeInEvery}
-use Rattle.fitting.specs.Solver.{ask}
+use Rattle.fitting.specs.Solver.{askAmong}
 use Rattle.fitting.specs.Passes.{orElse, openCells, pass, allOpen, judge}
 use Rattle.sources.specs.Sources.{sources}
 use Rattle.frontier.specs.Frontier.{blockOf, frontier, insideCells, knownMines}
@@ -25,5 +25,5 @@ use Rattle.patterns.specs.Answer.{unsolvableStructure}
 use Rattle.cases.specs.Table.{endsWith, holds, table}
 
 pub all-cases : all holds table ≡ true
-unfolding table holds endsWith around neighbours sizeOk lengthOk roomOk boardCellsOk positionCellsOk startOk numbersOk startCell startSafe boardTested positionTested deductionTested fits freeInEvery ask allOpen rotated sources blockOf frontier insideCells knownMines chunkMatrix chunkMatrixes sureMines sureSafe directLeft direct minusMines minusSafe minusLeft subtraction refusedAnswer written afterFound patternTested amongMines framed foundAt foundAnywhere foundInCorner patternFound unsolvableStructure firsts groups sizes groupsIn weighed solutions safeCells mineCells enumerated tableOf blockAsked calAllSolution orElse openCells pass judge roundsOf judgeRounds isSolvable
+unfolding table holds endsWith around neighbours sizeOk lengthOk roomOk boardCellsOk positionCellsOk startOk numbersOk startCell startSafe boardTested positionTested deductionTested fits freeInEvery askAmong allOpen rotated sources blockOf frontier insideCells knownMines chunkMatrix chunkMatrixes sureMines sureSafe directLeft direct minusMines minusSafe minusLeft subtraction refusedAnswer written afterFound patternTested amongMines framed foundAt foundAnywhere foundInCorner patternFound unsolvableStructure firsts groups sizes groupsIn weighed solutions safeCells mineCells enumerated tableOf blockAsked calAllSolution orElse openCells pass judge roundsOf judgeRounds isSolvable
 all-cases = refl

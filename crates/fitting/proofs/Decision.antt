@@ -1,19 +1,20 @@
 -- The test `fits` passes exactly at the layouts that fit, and the test `freeInEvery`, which tries every layout, decides what the solver asks: true says
--- that no layout that fits has a mine at the cell, false gives one that has. No axiom is used: there are finitely many layouts. Assumes nothing.
+-- that no layout that fits and passes the test `also` has a mine at the cell, false gives one that has. No axiom is used: there are finitely many layouts.
+-- Assumes nothing.
 use mathlib.Core.Path.{_≡_, refl, sym, ap}
 use mathlib.Core.Logic.{_⊎_, inl, inr, _≢_}
-use mathlib.Core.Bool.{Bool, true, false, not, _||_}
+use mathlib.Core.Bool.{Bool, true, false, not, _&&_, _||_}
 use mathlib.Core.List.{List, [], _∷_}
 use Prim.Native.Nat.{ℕ, zero, suc, _≤_, _<_}
 use native.Mathlib.Omega.{arith}
 use native.Mathlib.Decide.{decLt}
 use lib.Dec.{leb, eqb}
 use lib.ListN.{length, List·getD-eq-default}
-use borrow.Author.Tests.{eqb-true, eqb-false, eq-eqb, leb-true, le-leb}
+use borrow.Author.Tests.{eqb-true, eqb-false, eq-eqb, leb-true, le-leb, not-true, not-false}
 use Rattle.lists.specs.Lists.{count}
-use Rattle.lists.proofs.Tests.{Decided, decided, clash, and-left, and-right, and-cases, every-at, every-of}
+use Rattle.lists.proofs.Tests.{Decided, decided, clash, and-left, and-right, and-cases, or-false-left, or-false-right, every-at, every-of}
 use Rattle.grid.specs.Cells.{shows}
-use Rattle.fitting.specs.Layouts.{mineAt, Fits, Forced, agrees, fits, everyLayout, freeInEvery}
+use Rattle.fitting.specs.Layouts.{mineAt, Fits, ForcedAmong, agrees, fits, everyLayout, freeInEvery}
 
 -- ---- every layout of n cells
 
@@ -116,33 +117,35 @@ module _ (near : ℕ → List ℕ) (p : List ℕ) where
 
   -- ---- the decision
 
-  -- true: no layout that fits has a mine at the cell
-  pub free-forced : (c : ℕ) → freeInEvery near p c ≡ true → Forced near p c false
-  unfolding freeInEvery
-  free-forced c h m f = go (fits near p m) (mineAt m c) (fits-of m f) (everyLayout-at (length p) _ h m (f .sized))
-    where
-      go : (a x : Bool) → a ≡ true → (not a || not x) ≡ true → x ≡ false
-      go true true e h = sym h
-      go true false e h = refl
-      go false x e h = clash false e refl
+  -- tests of the layouts that fit and pass the test `also`
+  module _ (also : List Bool → Bool) where
+    -- a test that holds of every such layout holds of each
+    pub every-passing : (g : List Bool → Bool) → everyLayout (length p) (λ m. not (fits near p m && also m) || g m) ≡ true
+        → (m : List Bool) → Fits near p m → also m ≡ true → g m ≡ true
+    every-passing g h m f t = rw (fits-of m f, t) at (everyLayout-at (length p) (λ k. not (fits near p k && also k) || g k) h m (f .sized))
 
-  -- false: a layout that fits has a mine at the cell
-  pub not-free : (c : ℕ) → freeInEvery near p c ≡ false → (m : List Bool) × Fits near p m × (mineAt m c ≡ true)
-  unfolding freeInEvery
-  not-free c h =
-      let (m, s, w) = everyLayout-not (length p) _ h in
-      let (a, x) = both (fits near p m) (mineAt m c) w in
-      (m, fits-at m s a, x)
-    where
-      both : (a x : Bool) → (not a || not x) ≡ false → (a ≡ true) × (x ≡ true)
-      both true true h = (refl, refl)
-      both true false h = (refl, sym h)
-      both false x h = clash true refl h
+    -- a test that doesn't fails at one
+    pub some-passing : (g : List Bool → Bool) → everyLayout (length p) (λ m. not (fits near p m && also m) || g m) ≡ false
+        → (m : List Bool) × Fits near p m × (also m ≡ true) × (g m ≡ false)
+    some-passing g h =
+        let (m, s, w) = everyLayout-not (length p) _ h in
+        let k : (fits near p m && also m) ≡ true = not-false _ (or-false-left _ (g m) w) in
+        (m, fits-at m s (and-left _ (also m) k), and-right (fits near p m) _ k, or-false-right (not (fits near p m && also m)) _ w)
 
-  -- a cell with no mine in any layout that fits passes the test
-  pub forced-free : (c : ℕ) → Forced near p c false → freeInEvery near p c ≡ true
-  forced-free c h = go (decided (freeInEvery near p c))
-    where
-      go : Decided (freeInEvery near p c) → freeInEvery near p c ≡ true
-      go (inl e) = e
-      go (inr e) = let (m, f, x) = not-free c e in clash (mineAt m c) x (h m f)
+    -- true: no such layout has a mine at the cell
+    pub free-forced : (c : ℕ) → freeInEvery near also p c ≡ true → ForcedAmong near also p c false
+    unfolding freeInEvery
+    free-forced c h m f t = not-true (mineAt m c) (every-passing (λ k. not (mineAt k c)) h m f t)
+
+    -- false: such a layout has a mine at the cell
+    pub not-free : (c : ℕ) → freeInEvery near also p c ≡ false → (m : List Bool) × Fits near p m × (also m ≡ true) × (mineAt m c ≡ true)
+    unfolding freeInEvery
+    not-free c h = let (m, f, t, x) = some-passing (λ k. not (mineAt k c)) h in (m, f, t, not-false (mineAt m c) x)
+
+    -- a cell with no mine in any such layout passes the test
+    pub forced-free : (c : ℕ) → ForcedAmong near also p c false → freeInEvery near also p c ≡ true
+    forced-free c h = go (decided (freeInEvery near also p c))
+      where
+        go : Decided (freeInEvery near also p c) → freeInEvery near also p c ≡ true
+        go (inl e) = e
+        go (inr e) = let (m, f, t, x) = not-free c e in clash (mineAt m c) x (h m f t)

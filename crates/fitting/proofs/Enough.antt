@@ -15,10 +15,10 @@ use Rattle.grid.specs.Cells.{cellOf, shows}
 use Rattle.fitting.specs.Layouts.{Fits}
 use Rattle.fitting.specs.Boards.{own, Accepted}
 use Rattle.fitting.specs.Passes.{GradedCells, nothing, flood, openCells, pass, allOpen, passes}
-use Rattle.fitting.specs.Rules.{Sound}
+use Rattle.fitting.specs.Rules.{SoundAmong}
 use Rattle.fitting.proofs.Layouts.{on-board}
 use Rattle.fitting.proofs.Steps.{closed, closed-less, pass-less}
-use Rattle.fitting.proofs.Passes.{passesOn, pass-own}
+use Rattle.fitting.proofs.Passes.{passesOn, pass-own-among}
 
 -- ---- the flood: an opened cell brings at most eight others, and one closed cell less pays for nine
 
@@ -75,7 +75,8 @@ openCells-ends near b p cs k ok few long h =
 
 -- ---- the passes: each leaves fewer closed cells
 
-module _ (near : ℕ → List ℕ) (b : List ℕ) (rule : List ℕ → GradedCells) (ok : Accepted near b) (sound : Sound near b rule) where
+module _ (near : ℕ → List ℕ) (also : List Bool → Bool) (b : List ℕ) (rule : List ℕ → GradedCells) (ok : Accepted near b)
+    (own-passes : also (own b) ≡ true) (sound : SoundAmong near also b rule) where
   -- where no cell is closed, a pass finds nothing
   none-left : (j : ℕ) (p : List ℕ) (grade rounds : ℕ) → Fits near p (own b) → closed p ≤ 0
       → passes near b rule zero p grade rounds ≡ passes near b rule (suc j) p grade rounds
@@ -84,7 +85,7 @@ module _ (near : ℕ → List ℕ) (b : List ℕ) (rule : List ℕ → GradedCel
       go : Decided (allOpen b p) → Decided (nothing (rule p)) → passes near b rule zero p grade rounds ≡ passes near b rule (suc j) p grade rounds
       go (inl a) e = rw a
       go (inr a) (inl e) = rw (a, e)
-      go (inr a) (inr e) = absurd (omega (arith, pass-less near b ok rule sound p fit e))
+      go (inr a) (inr e) = absurd (omega (arith, pass-less near also b ok own-passes rule sound p fit e))
 
   -- any two counts that are enough give the same ending
   pub passes-same : (k j : ℕ) (p : List ℕ) (grade rounds : ℕ) → Fits near p (own b) → closed p ≤ k → closed p ≤ j
@@ -95,11 +96,11 @@ module _ (near : ℕ → List ℕ) (b : List ℕ) (rule : List ℕ → GradedCel
   passes-same (suc k) (suc j) p grade rounds fit u v =
       go (decided (allOpen b p)) (decided (nothing (rule p)))
       (λ w. passes-same k j (pass near b p (rule p)) (max grade (rule p .grade)) (rounds + 1)
-      (pass-own near b rule p ok sound fit) (omega arith) (omega arith))
+      (pass-own-among near also b rule p ok own-passes sound fit) (omega arith) (omega arith))
     where
       go : Decided (allOpen b p) → Decided (nothing (rule p))
           → (closed (pass near b p (rule p)) < closed p → passesOn near b rule k p grade rounds ≡ passesOn near b rule j p grade rounds)
           → passes near b rule (suc k) p grade rounds ≡ passes near b rule (suc j) p grade rounds
       go (inl a) e later = rw a
       go (inr a) (inl e) later = rw (a, e)
-      go (inr a) (inr e) later = rw (a, e) (later (pass-less near b ok rule sound p fit e))
+      go (inr a) (inr e) later = rw (a, e) (later (pass-less near also b ok own-passes rule sound p fit e))

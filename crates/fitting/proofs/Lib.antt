@@ -16,10 +16,11 @@ pub mod Covers
 pub mod Within
 pub mod Pictures
 pub mod Confluence
--- demand 3 of the passes over any sound and complete rule, and such a rule
+-- demand 3 of the passes over any sound and complete rule, such a rule for every test on layouts, and what a mine total changes
 pub mod Rules
 pub mod Steps
 pub mod Passes
 pub mod Enough
-pub mod Exhaustive
+pub mod ForcedCells
+pub mod TotalDemand
 pub mod Examples

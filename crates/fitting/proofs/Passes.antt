@@ -1,9 +1,10 @@
--- The verdict's passes over a rule that is sound and complete are a judged run, so demand 3 holds of `judge`, whatever else the rule is. What each pass
--- keeps, the ending has (`passes-keep`): so the board's own layout fits wherever the passes come to, rounds never exceed the cells, and the grade is one that
--- the rule gives, or 0 without a round. Rests on Steps and Confluence. Assumes nothing.
+-- The verdict's passes over a rule that is sound and complete are a judged run, so demand 3 holds of `judge`, whatever else the rule is, and for any test on
+-- layouts that the board's own passes; on a plain board every layout does. What each pass keeps, the ending has (`passes-keep`): so the own layout fits
+-- wherever the passes come to, rounds never exceed the cells, and the grade is one that the rule gives, or 0 without a round.
+-- Rests on Steps and Confluence. Assumes nothing.
 use mathlib.Core.Path.{_≡_, refl, sym, _∙_}
 use mathlib.Core.Logic.{_⊎_, inl, inr, _≢_, _↔_}
-use mathlib.Core.Bool.{true, false, _||_}
+use mathlib.Core.Bool.{Bool, true, false, _||_}
 use mathlib.Core.List.{List}
 use Prim.Native.Nat.{ℕ, zero, suc, _+_, _≤_, _<_, max}
 use native.Mathlib.Omega.{arith}
@@ -14,16 +15,17 @@ use borrow.Author.Tests.{eqb-false, ne-eqb, leb-true, leb-false, le-leb}
 use Rattle.lists.proofs.Tests.{Decided, decided, clash, every-at, every-of}
 use Rattle.lists.proofs.Counts.{count-le}
 use Rattle.grid.specs.Cells.{cellOf, shows}
-use Rattle.fitting.specs.Layouts.{Fits}
+use Rattle.fitting.specs.Layouts.{Fits, anyLayout}
 use Rattle.fitting.specs.Boards.{own, Accepted, AllOpen}
 use Rattle.fitting.specs.Solver.{first}
-use Rattle.fitting.specs.Demand.{picture, opened, Demand3}
+use Rattle.fitting.specs.Demand.{picture, opened, Demand3, Demand3Among}
 use Rattle.fitting.specs.Passes.{GradedCells, nothing, pass, allOpen, Ending, passes, judge}
-use Rattle.fitting.specs.Rules.{Sound, Complete}
+use Rattle.fitting.specs.Rules.{Sound, Complete, SoundAmong, CompleteAmong}
 use Rattle.fitting.proofs.Layouts.{on-board}
 use Rattle.fitting.proofs.Own.{fit-length, first-own}
 use Rattle.fitting.proofs.Runs.{Run, Stuck, run-join, run-own}
-use Rattle.fitting.proofs.Steps.{beginning, closed, closed-less, begin-run, pass-run, pass-less}
+use Rattle.fitting.proofs.Steps.{beginning, closed, closed-less, begin-run, pass-run-among, pass-less}
+use Rattle.fitting.proofs.Rules.{sound-among, complete-among-any}
 use Rattle.fitting.proofs.Confluence.{demand-3, demand-3-unique}
 
 -- the test `allOpen` passes exactly where all safe cells are open
@@ -45,7 +47,7 @@ allOpen-of b p h = every-of (length b) (λ d. eqb (cellOf b d) 255 || leb (shows
 -- it fits where the passes begin
 pub begin-own : (near : ℕ → List ℕ) (b : List ℕ) (s : ℕ) → Accepted near b → s < length b → cellOf b s ≢ 255
     → Fits near (beginning near b s) (own b)
-begin-own near b s ok l n = run-own near b ok (first-own near b ok s l n) (begin-run near b ok s l n)
+begin-own near b s ok l n = run-own near anyLayout b ok refl (first-own near b ok s l n) (begin-run near anyLayout b ok refl s l n)
 
 -- no more are closed there than there are cells
 begin-closed : (near : ℕ → List ℕ) (b : List ℕ) (s : ℕ) → Accepted near b → s < length b → cellOf b s ≢ 255 → closed (beginning near b s) ≤ length b
@@ -53,9 +55,15 @@ begin-closed near b s ok l n =
     omega (arith, count-le (λ v. eqb v 10) (beginning near b s), fit-length near b (beginning near b s) (begin-own near b s ok l n))
 
 -- and it fits after a pass, if it did before
+pub pass-own-among : (near : ℕ → List ℕ) (also : List Bool → Bool) (b : List ℕ) (rule : List ℕ → GradedCells) (p : List ℕ) → Accepted near b
+    → also (own b) ≡ true → SoundAmong near also b rule → Fits near p (own b) → Fits near (pass near b p (rule p)) (own b)
+pass-own-among near also b rule p ok own-passes sound fit =
+    run-own near also b ok own-passes fit (pass-run-among near also b ok own-passes rule sound p fit)
+
+-- the same on a plain board
 pub pass-own : (near : ℕ → List ℕ) (b : List ℕ) (rule : List ℕ → GradedCells) (p : List ℕ) → Accepted near b → Sound near b rule
     → Fits near p (own b) → Fits near (pass near b p (rule p)) (own b)
-pass-own near b rule p ok sound fit = run-own near b ok fit (pass-run near b ok rule sound p fit)
+pass-own near b rule p ok sound fit = pass-own-among near anyLayout b rule p ok refl (sound-among near anyLayout b rule sound) fit
 
 -- ---- how the passes end
 
@@ -63,24 +71,25 @@ pass-own near b rule p ok sound fit = run-own near b ok fit (pass-run near b ok 
 abbrev pub passesOn : (ℕ → List ℕ) → List ℕ → (List ℕ → GradedCells) → ℕ → List ℕ → ℕ → ℕ → Ending
 passesOn near b rule k p grade rounds = passes near b rule k (pass near b p (rule p)) (max grade (rule p .grade)) (rounds + 1)
 
--- the passes are at their end: all safe cells are open or the frontier is stuck, and the answer says which
-abbrev Ended : (ℕ → List ℕ) → List ℕ → Ending → Type 0
-Ended near b e = (AllOpen b (e .position) ⊎ Stuck near (e .position)) × ((e .yes ≡ true) ↔ AllOpen b (e .position))
+-- the passes are at their end: all safe cells are open or the judge is stuck, and the answer says which
+abbrev Ended : (ℕ → List ℕ) → (List Bool → Bool) → List ℕ → Ending → Type 0
+Ended near also b e = (AllOpen b (e .position) ⊎ Stuck near also (e .position)) × ((e .yes ≡ true) ↔ AllOpen b (e .position))
 
 -- as many passes as there are closed cells are enough for that
-passes-end : (near : ℕ → List ℕ) (b : List ℕ) (rule : List ℕ → GradedCells) → Accepted near b → Sound near b rule → Complete near b rule
-    → (k : ℕ) (p : List ℕ) (grade rounds : ℕ) → Fits near p (own b) → closed p ≤ k → Ended near b (passes near b rule k p grade rounds)
-passes-end near b rule ok sound complete zero p grade rounds fit h = (
-  inr (λ c d e _ _. absurd (omega (arith, closed-less p c 0 e (on-board p c (omega arith)) (omega arith)))),
+passes-end : (near : ℕ → List ℕ) (also : List Bool → Bool) (b : List ℕ) (rule : List ℕ → GradedCells) → Accepted near b → also (own b) ≡ true
+    → SoundAmong near also b rule → CompleteAmong near also b rule
+    → (k : ℕ) (p : List ℕ) (grade rounds : ℕ) → Fits near p (own b) → closed p ≤ k → Ended near also b (passes near b rule k p grade rounds)
+passes-end near also b rule ok own-passes sound complete zero p grade rounds fit h = (
+  inr (λ c e. absurd (omega (arith, closed-less p c 0 e (on-board p c (omega arith)) (omega arith)))),
   (allOpen-at b p, allOpen-of b p),
 )
-passes-end near b rule ok sound complete (suc k) p grade rounds fit h =
+passes-end near also b rule ok own-passes sound complete (suc k) p grade rounds fit h =
     go (decided (allOpen b p)) (decided (nothing (rule p)))
-    (λ e. passes-end near b rule ok sound complete k (pass near b p (rule p)) (max grade (rule p .grade)) (rounds + 1)
-    (pass-own near b rule p ok sound fit) (omega (arith, pass-less near b ok rule sound p fit e)))
+    (λ e. passes-end near also b rule ok own-passes sound complete k (pass near b p (rule p)) (max grade (rule p .grade)) (rounds + 1)
+    (pass-own-among near also b rule p ok own-passes sound fit) (omega (arith, pass-less near also b ok own-passes rule sound p fit e)))
   where
-    go : Decided (allOpen b p) → Decided (nothing (rule p)) → (nothing (rule p) ≡ false → Ended near b (passesOn near b rule k p grade rounds))
-        → Ended near b (passes near b rule (suc k) p grade rounds)
+    go : Decided (allOpen b p) → Decided (nothing (rule p)) → (nothing (rule p) ≡ false → Ended near also b (passesOn near b rule k p grade rounds))
+        → Ended near also b (passes near b rule (suc k) p grade rounds)
     go (inl a) e later = rw a (inl (allOpen-at b p a), (λ _. allOpen-at b p a, λ _. refl))
     go (inr a) (inl e) later =
         rw (a, e) (inr (complete .witness p fit e), (λ x. clash true refl (sym x), λ x. sym (sym (allOpen-of b p x) ∙ a)))
@@ -110,58 +119,76 @@ passes-keep near b rule Claim keeps (suc k) p grade rounds h =
     go (inr a) (inr e) later = rw (a, e) (later e)
 
 -- the board's own layout fits where the passes end
-pub judge-own : (near : ℕ → List ℕ) (b : List ℕ) (rule : List ℕ → GradedCells) (s : ℕ) → Accepted near b → s < length b → cellOf b s ≢ 255
-    → Sound near b rule → Fits near (judge near b rule s .position) (own b)
+pub judge-own : (near : ℕ → List ℕ) (also : List Bool → Bool) (b : List ℕ) (rule : List ℕ → GradedCells) (s : ℕ) → Accepted near b
+    → also (own b) ≡ true → s < length b → cellOf b s ≢ 255 → SoundAmong near also b rule → Fits near (judge near b rule s .position) (own b)
 unfolding judge
-judge-own near b rule s ok l n sound =
-    passes-keep near b rule (λ p _ _. Fits near p (own b)) (λ p _ _ _ fit. pass-own near b rule p ok sound fit)
+judge-own near also b rule s ok own-passes l n sound =
+    passes-keep near b rule (λ p _ _. Fits near p (own b)) (λ p _ _ _ fit. pass-own-among near also b rule p ok own-passes sound fit)
     (length b) (beginning near b s) 0 0 (begin-own near b s ok l n)
 
 -- ---- demand 3
 
--- demand 3 of the passes over any rule that is sound and complete
-pub judge-demand-3 : (near : ℕ → List ℕ) (b : List ℕ) (rule : List ℕ → GradedCells) (s : ℕ) → Accepted near b → s < length b → cellOf b s ≢ 255
-    → Sound near b rule → Complete near b rule
-    → Demand3 near b s (judge near b rule s .yes) (opened (judge near b rule s .position)) (picture (judge near b rule s .position))
+-- demand 3 of the passes over any rule that is sound and complete for the layouts that pass a test, if the board's own layout passes it
+pub judge-demand-3-among : (near : ℕ → List ℕ) (also : List Bool → Bool) (b : List ℕ) (rule : List ℕ → GradedCells) (s : ℕ) → Accepted near b
+    → also (own b) ≡ true → s < length b → cellOf b s ≢ 255 → SoundAmong near also b rule → CompleteAmong near also b rule
+    → Demand3Among near also b s (judge near b rule s .yes) (opened (judge near b rule s .position)) (picture (judge near b rule s .position))
 unfolding judge
-judge-demand-3 near b rule s ok l n sound complete =
+judge-demand-3-among near also b rule s ok own-passes l n sound complete =
     let p = beginning near b s in
     let fit = first-own near b ok s l n in
-    let (ends, verdict) = passes-end near b rule ok sound complete (length b) p 0 0 (begin-own near b s ok l n) (begin-closed near b s ok l n) in
-    demand-3 near b s (passes near b rule (length b) p 0 0 .position) (passes near b rule (length b) p 0 0 .yes) ok l n (record {
-      run = passes-keep near b rule (λ q _ _. Run near b (first b s) q)
-          (λ q _ _ _ r. run-join near b r (pass-run near b ok rule sound q (run-own near b ok fit r))) (length b) p 0 0 (begin-run near b ok s l n);
+    let begun = begin-own near b s ok l n in
+    let (ends, verdict) = passes-end near also b rule ok own-passes sound complete (length b) p 0 0 begun (begin-closed near b s ok l n) in
+    demand-3 near also b s (passes near b rule (length b) p 0 0 .position) (passes near b rule (length b) p 0 0 .yes) ok own-passes l n (record {
+      run = passes-keep near b rule (λ q _ _. Run near also b (first b s) q)
+          (λ q _ _ _ r. run-join near also b r (pass-run-among near also b ok own-passes rule sound q (run-own near also b ok own-passes fit r)))
+          (length b) p 0 0 (begin-run near also b ok own-passes s l n);
       ends = ends;
       verdict = verdict;
     })
 
+-- and on a plain board, of any rule that is sound and complete
+pub judge-demand-3 : (near : ℕ → List ℕ) (b : List ℕ) (rule : List ℕ → GradedCells) (s : ℕ) → Accepted near b → s < length b → cellOf b s ≢ 255
+    → Sound near b rule → Complete near b rule
+    → Demand3 near b s (judge near b rule s .yes) (opened (judge near b rule s .position)) (picture (judge near b rule s .position))
+judge-demand-3 near b rule s ok l n sound complete =
+    judge-demand-3-among near anyLayout b rule s ok refl l n (sound-among near anyLayout b rule sound) (complete-among-any near b rule complete)
+
 -- so what the rules are, and in what order they find cells, makes no difference to verdict, count and picture
-pub rules-agree : (near : ℕ → List ℕ) (b : List ℕ) (rule other : List ℕ → GradedCells) (s : ℕ) → Accepted near b → s < length b → cellOf b s ≢ 255
-    → Sound near b rule → Complete near b rule → Sound near b other → Complete near b other
+pub rules-agree : (near : ℕ → List ℕ) (also : List Bool → Bool) (b : List ℕ) (rule other : List ℕ → GradedCells) (s : ℕ) → Accepted near b
+    → also (own b) ≡ true → s < length b → cellOf b s ≢ 255
+    → SoundAmong near also b rule → CompleteAmong near also b rule → SoundAmong near also b other → CompleteAmong near also b other
     → (judge near b rule s .yes ≡ judge near b other s .yes)
     × (opened (judge near b rule s .position) ≡ opened (judge near b other s .position))
     × (picture (judge near b rule s .position) ≡ picture (judge near b other s .position))
-rules-agree near b rule other s ok l n sound complete sound-other complete-other =
-    demand-3-unique near b s (judge near b rule s .yes) (judge near b other s .yes)
+rules-agree near also b rule other s ok own-passes l n sound complete sound-other complete-other =
+    demand-3-unique near also b s (judge near b rule s .yes) (judge near b other s .yes)
     (opened (judge near b rule s .position)) (opened (judge near b other s .position))
     (picture (judge near b rule s .position)) (picture (judge near b other s .position))
-    (judge-demand-3 near b rule s ok l n sound complete) (judge-demand-3 near b other s ok l n sound-other complete-other)
+    (judge-demand-3-among near also b rule s ok own-passes l n sound complete)
+    (judge-demand-3-among near also b other s ok own-passes l n sound-other complete-other)
 
 -- ---- rounds and grade
 
 -- each round leaves fewer closed cells, so that rounds never exceed the cells
-pub rounds-cells : (near : ℕ → List ℕ) (b : List ℕ) (rule : List ℕ → GradedCells) (s : ℕ) → Accepted near b → s < length b → cellOf b s ≢ 255
-    → Sound near b rule → judge near b rule s .rounds ≤ length b
+pub rounds-cells-among : (near : ℕ → List ℕ) (also : List Bool → Bool) (b : List ℕ) (rule : List ℕ → GradedCells) (s : ℕ) → Accepted near b
+    → also (own b) ≡ true → s < length b → cellOf b s ≢ 255 → SoundAmong near also b rule → judge near b rule s .rounds ≤ length b
 unfolding judge
-rounds-cells near b rule s ok l n sound = omega (arith, kept .1)
+rounds-cells-among near also b rule s ok own-passes l n sound = omega (arith, kept .1)
   where
     Few : List ℕ → ℕ → ℕ → Type 0
     Few p grade rounds = Fits near p (own b) × (rounds + closed p ≤ length b)
 
+    next : Keeps near b rule Few
+    next p grade rounds e (fit, few) =
+        (pass-own-among near also b rule p ok own-passes sound fit, omega (arith, pass-less near also b ok own-passes rule sound p fit e, few))
+
     kept : AtEnd Few (passes near b rule (length b) (beginning near b s) 0 0)
-    kept = passes-keep near b rule Few
-        (λ p _ rounds e h. (pass-own near b rule p ok sound (h .0), omega (arith, pass-less near b ok rule sound p (h .0) e, h .1)))
-        (length b) (beginning near b s) 0 0 (begin-own near b s ok l n, omega (arith, begin-closed near b s ok l n))
+    kept = passes-keep near b rule Few next (length b) (beginning near b s) 0 0 (begin-own near b s ok l n, omega (arith, begin-closed near b s ok l n))
+
+-- the same on a plain board
+pub rounds-cells : (near : ℕ → List ℕ) (b : List ℕ) (rule : List ℕ → GradedCells) (s : ℕ) → Accepted near b → s < length b → cellOf b s ≢ 255
+    → Sound near b rule → judge near b rule s .rounds ≤ length b
+rounds-cells near b rule s ok l n sound = rounds-cells-among near anyLayout b rule s ok refl l n (sound-among near anyLayout b rule sound)
 
 -- the greater of two numbers is one of them
 max-either : (P : ℕ → Type 0) (m n : ℕ) → P m → P n → P (max m n)

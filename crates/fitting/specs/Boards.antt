@@ -14,6 +14,10 @@ use Rattle.fitting.specs.Layouts.{mineAt}
 abbrev pub own : List ℕ → List Bool
 own b = map (λ (v : ℕ). eqb v 255) b
 
+-- how many cells of the board are mines
+abbrev pub mineTotal : List ℕ → ℕ
+mineTotal b = count (λ (v : ℕ). eqb v 255) b
+
 -- an accepted board: each safe cell holds 0 to 8, the number of its neighbouring mines
 pub record Accepted (near : ℕ → List ℕ) (b : List ℕ) : Type 0 where
   pub small : (c : ℕ) → c < length b → cellOf b c ≢ 255 → cellOf b c ≤ 8

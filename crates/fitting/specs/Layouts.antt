@@ -25,6 +25,20 @@ pub record Fits (near : ℕ → List ℕ) (p : List ℕ) (m : List Bool) : Type 
 abbrev pub Forced : (ℕ → List ℕ) → List ℕ → ℕ → Bool → Type 0
 Forced near p c v = (m : List Bool) → Fits near p m → mineAt m c ≡ v
 
+-- ---- a test that a layout must pass beside fitting
+
+-- on a plain board every layout passes
+abbrev pub anyLayout : List Bool → Bool
+anyLayout m = true
+
+-- the layout holds exactly n mines, cells away from the frontier included
+abbrev pub ofTotal : ℕ → List Bool → Bool
+ofTotal n m = eqb (count (λ x. x) m) n
+
+-- the cell is the same in every layout that fits and passes the test `also`
+abbrev pub ForcedAmong : (ℕ → List ℕ) → (List Bool → Bool) → List ℕ → ℕ → Bool → Type 0
+ForcedAmong near also p c v = (m : List Bool) → Fits near p m → also m ≡ true → mineAt m c ≡ v
+
 -- ---- the same as tests, which compute
 
 -- what is asked of a cell that shows v, holds a mine or not, and has k neighbouring mines
@@ -40,6 +54,6 @@ abbrev pub everyLayout : ℕ → (List Bool → Bool) → Bool
 everyLayout zero f = f []
 everyLayout (suc n) f = everyLayout n (λ m. f (false ∷ m)) && everyLayout n (λ m. f (true ∷ m))
 
--- no layout that fits the position has a mine at the cell
-unfoldable pub freeInEvery : (ℕ → List ℕ) → List ℕ → ℕ → Bool
-freeInEvery near p c = everyLayout (length p) (λ m. not (fits near p m) || not (mineAt m c))
+-- no layout that fits the position and passes the test `also` has a mine at the cell
+unfoldable pub freeInEvery : (ℕ → List ℕ) → (List Bool → Bool) → List ℕ → ℕ → Bool
+freeInEvery near also p c = everyLayout (length p) (λ m. not (fits near p m && also m) || not (mineAt m c))

@@ -6,3 +6,4 @@ pub mod Demand
 pub mod Equations
 pub mod Passes
 pub mod Rules
+pub mod ForcedCells

@@ -8,7 +8,7 @@ use lib.ListN.{length, set, replicate}
 use Rattle.lists.specs.Lists.{every, empty}
 use Rattle.grid.specs.Cells.{cellOf, shows}
 
--- what a rule finds at a position: cells that are safe, cells that are mines, and the rule's grade (1 direct, 2 subtraction, 3 enumeration)
+-- what a rule finds at a position: cells that are safe, cells that are mines, and the rule's grade (1 direct, 2 subtraction, 3 enumeration, 5 the mine total)
 pub record GradedCells : Type 0 where
   pub safe : List ℕ
   pub mines : List ℕ
