@@ -22,5 +22,6 @@ pub mod Steps
 pub mod Passes
 pub mod Enough
 pub mod ForcedCells
+pub mod MoreOpened
 pub mod TotalDemand
 pub mod Examples
