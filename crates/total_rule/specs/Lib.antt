@@ -1,0 +1,2 @@
+-- What the functions of the fourth rule are told and tell.
+pub mod Cells
