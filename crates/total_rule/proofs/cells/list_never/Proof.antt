@@ -64,10 +64,10 @@ loop-again c =
     let test = c .before .before .loop-test .taken in (
       omega (arith, test),
       ⊎-elim
-          (λ w. rw (w .3, w .4) (listed-next (loop .inv .1) (omega (arith, test, s .pre)) (never-yes _ _ (loop .c) test (w .0 .taken) (w .2 .taken))))
+          (λ w. rw (w .3, w .4) (listed-next (loop .inv .1) (omega (arith, test, s .pre)) (never-yes (s .args .position .now) (s .args .told .now) (loop .c) test (w .0 .taken) (w .2 .taken))))
           (⊎-elim
-          (λ w. rw (w .3, w .4) (listed-pass (loop .inv .1) (never-told _ _ (loop .c) test (w .0 .taken) (ne-eqb _ _ (w .2 .left)))))
-          (λ w. rw (w .1, w .2) (listed-pass (loop .inv .1) (never-shut _ _ (loop .c) test (ne-eqb _ _ (w .0 .left))))))
+          (λ w. rw (w .3, w .4) (listed-pass (loop .inv .1) (never-told (s .args .position .now) (s .args .told .now) (loop .c) test (w .0 .taken) (ne-eqb _ _ (w .2 .left)))))
+          (λ w. rw (w .1, w .2) (listed-pass (loop .inv .1) (never-shut (s .args .position .now) (s .args .told .now) (loop .c) test (ne-eqb _ _ (w .0 .left))))))
           (c .if1 .came),
     )
 
