@@ -11,3 +11,5 @@ pub mod UnderwayStates
 pub mod Tables
 -- the loop over the values of a group
 pub mod TriedValues
+-- the rows of the walk over the groups in their own order are the block's solutions
+pub mod BlockRows

@@ -6,10 +6,12 @@ use mathlib.Core.Bool.{Bool, true, false, cond, _&&_, _||_}
 use mathlib.Core.List.{List}
 use Prim.Native.Nat.{ℕ, _<_}
 use lib.Dec.{eqb}
-use lib.ListN.{length, getD, set, length-set}
+use lib.ListN.{length, getD, set, replicate, length-set}
 use lib.Seq.{getD-set-same, getD-set-other}
 use borrow.Author.Tests.{eqb-true, eqb-false}
+use Rattle.lists.specs.Lists.{bit}
 use Rattle.lists.proofs.Tests.{Decided, decided}
+use Rattle.lists.proofs.Elements.{replicate-all}
 use Rattle.counting.specs.Counting.{Marked}
 use Rattle.counting.specs.States.{AllMarked}
 
@@ -66,3 +68,11 @@ module _ {f : ℕ → Bool} {a b : List ℕ} (m : Marked f a b) where
       go : (t : Bool) → cond t 1 (getD a x 0) ≡ 1
       go true = refl
       go false = e
+
+-- where nothing was marked, a mark says that the test passes
+pub marked-from-none : (n : ℕ) {f : ℕ → Bool} {after : List ℕ} → Marked f (replicate n 0) after → (x : ℕ) → getD after x 0 ≡ bit (f x)
+marked-from-none n {f} m x = m .at x ∙ go (f x)
+  where
+    go : (t : Bool) → cond t 1 (getD (replicate n 0) x 0) ≡ bit t
+    go true = refl
+    go false = replicate-all (λ _ v. v ≡ 0) n 0 0 (λ i h. refl) (λ i h. refl) x

@@ -1,14 +1,17 @@
 -- Cited by no public contract. What a walk over a block's groups tells. Rows are the values that solutions give the groups still unset; `count` mines are set
 -- already, and a row counts where its mines bring them to a number that is allowed. Told are whether some row counts, and in three arrays of bytes which
--- numbers such rows reach, which groups have a mine in one, and which have a free cell in one. Assumes nothing.
+-- numbers such rows reach, which groups have a mine in one, and which have a free cell in one; and the same of the solutions of a block. Assumes nothing.
 use mathlib.Core.Path.{_≡_}
 use mathlib.Core.Bool.{Bool, false, cond, _&&_, _||_}
 use mathlib.Core.List.{List, [], _∷_}
-use Prim.Native.Nat.{ℕ, _+_}
+use Prim.Native.Nat.{ℕ, _+_, _<_}
 use lib.Dec.{ltb, eqb}
 use lib.ListN.{length, getD}
-use Rattle.lists.specs.Lists.{any}
-use Rattle.search.specs.Solutions.{sum}
+use Rattle.lists.specs.Lists.{bit, any}
+use Rattle.blocks.specs.Blocks.{Block}
+use Rattle.groups.specs.Groups.{firsts, sizes}
+use Rattle.search.specs.Solutions.{sum, solutions}
+use Rattle.counting.specs.declared.block.Counted.{Counted}
 
 -- a row brings the mines to an allowed number
 abbrev pub countsTo : List ℕ → ℕ → List ℕ → Bool
@@ -43,3 +46,10 @@ pub record Walked (allowed sizes : List ℕ) (count : ℕ) (gs : List ℕ) (rows
   pub reaches : Marked (λ x. someCounts allowed count (λ row. eqb (count + sum row) x) rows) reached reachedAfter
   pub mines : Marked (λ x. someCounts allowed count (gives holdsMine gs x) rows) mined minedAfter
   pub frees : Marked (λ x. someCounts allowed count (gives (leavesFree sizes) gs x) rows) unfilled unfilledAfter
+
+-- what the solutions of a block with an allowed mine count show
+pub record CountedBy (b : Block) (allowed : List ℕ) (r : Counted) : Type 0 where
+  pub reaches : (t : ℕ) → getD (r .reached) t 0 ≡ bit (any (λ (row : List ℕ). eqb (getD allowed (sum row) 0) 1 && eqb (sum row) t) (solutions b))
+  pub mines : (g : ℕ) → g < length (firsts b) → getD (r .mined) g 0 ≡ bit (any (λ (row : List ℕ). eqb (getD allowed (sum row) 0) 1 && ltb 0 (getD row g 0)) (solutions b))
+  pub frees : (g : ℕ) → g < length (firsts b)
+      → getD (r .unfilled) g 0 ≡ bit (any (λ (row : List ℕ). eqb (getD allowed (sum row) 0) 1 && ltb (getD row g 0) (getD (sizes b) g 0)) (solutions b))
