@@ -45,7 +45,7 @@ module _ (b : Block) (k : Combinable b) where
   -- ---- the cells of a group
 
   -- a cell's group, in the array
-  group-read : (c : ℕ) → has (b .cells) c ≡ true → getD (grouped b .«group_of») c 0 ≡ groupOf b c
+  pub group-read : (c : ℕ) → has (b .cells) c ≡ true → getD (grouped b .«group_of») c 0 ≡ groupOf b c
   unfolding grouped
   group-read c h =
       let below : c < 1024 = ltb-true c 1024 (all-has (λ d. ltb d 1024) (b .cells) (k .below) c h) in

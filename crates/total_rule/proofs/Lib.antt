@@ -1,3 +1,7 @@
 -- The laws of the fourth rule, in reading order.
 -- arrays filled place by place
 pub mod ToldCells
+-- block after block
+pub mod ToldBlocks
+-- allowed counts, in arrays and as defined
+pub mod AllowedRows
