@@ -3,6 +3,9 @@
 -- sums of sets of numbers, and so many of a list's numbers chosen
 pub mod SumsOfSets
 pub mod ChosenNumbers
+-- sets of numbers in arrays of bytes, and the sums of them
+pub mod SetsInArrays
+pub mod JoinedSets
 -- one block: its counts, and what they say of a cell
 pub mod BlockCounts
 -- several blocks that share no cell
