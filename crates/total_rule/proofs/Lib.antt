@@ -5,3 +5,4 @@ pub mod ToldCells
 pub mod ToldBlocks
 -- allowed counts, in arrays and as defined
 pub mod AllowedRows
+pub mod CountedBlocks

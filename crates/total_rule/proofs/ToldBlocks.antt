@@ -6,10 +6,10 @@ use mathlib.Core.Bool.{Bool, true, false, cond, _&&_}
 use mathlib.Core.List.{List, [], _∷_, _++_, map, List·Memᴰ}
 use Prim.Native.Nat.{ℕ, zero, suc, _+_, _-_, _≤_, _<_}
 use native.Mathlib.Omega.{arith}
-use native.Mathlib.Nat.{not-suc-le-zero, le-of-suc-le-suc}
+use native.Mathlib.Nat.{zero-add, not-suc-le-zero, le-of-suc-le-suc}
 use native.Mathlib.Decide.{decLt, decLe}
 use lib.Dec.{leb, ltb, eqb}
-use lib.ListN.{length, getD}
+use lib.ListN.{length, getD, length-map, List·getD-eq-default}
 use borrow.Author.Tests.{eqb-true, eqb-false, lt-ltb, le-ltb, le-leb, lt-leb}
 use Rattle.lists.specs.Lists.{range, bit, any, all, has, nodup}
 use Rattle.lists.proofs.Tests.{Decided, decided, clash, and-left, and-right, bit-is-one}
@@ -17,6 +17,8 @@ use Rattle.lists.proofs.Unions.{has-joined-map, mem-at}
 use Rattle.lists.proofs.Occurrences.{any-in, in-any}
 use Rattle.lists.proofs.Among.{among-nodup, among-right}
 use Rattle.lists.proofs.TurnedRound.{nodup-apart}
+use Rattle.lists.proofs.ReadBack.{range-made}
+use Rattle.lists.proofs.Rearranged.{length-range}
 use Rattle.blocks.specs.Blocks.{Block}
 use Rattle.blocks.specs.BlockSets.{allCells, beginAt}
 use Rattle.blocks.specs.Places.{blockFrom, cellsFrom}
@@ -24,7 +26,7 @@ use Rattle.blocks.specs.declared.Bounds.{Bounds}
 use Rattle.groups.specs.Groups.{firsts, groupOf}
 use Rattle.groups.specs.Grouping.{Combinable, grouped}
 use Rattle.groups.specs.declared.Grouped.{Grouped}
-use Rattle.groups.proofs.GroupLaws.{group-of-below}
+use Rattle.groups.proofs.GroupLaws.{firsts-few, group-of-below}
 use Rattle.enumeration.proofs.ListedBlock.{group-read}
 use Rattle.totals.specs.Totals.{possibleCount}
 use Rattle.totals.specs.Joining.{countsAt, EndsInOrder}
@@ -32,6 +34,25 @@ use Rattle.total_rule.specs.Cells.{Copied, Told}
 use Rattle.total_rule.specs.Blocks.{blockThere, ToldBlock, CountsHeld, CellsTold}
 
 -- ---- one block
+
+-- a group in the array is one of its places
+pub groups-in-array : (b : Block) → Combinable b → (c : ℕ) → getD (grouped b .«group_of») c 0 < 1024
+unfolding grouped
+groups-in-array b combinable c = go (decLt c 1024)
+  where
+    few : length (firsts b) ≤ 1024
+    few = omega (arith, firsts-few b, combinable .few-cells)
+
+    small : Decided (has (b .cells) c) → cond (has (b .cells) c) (groupOf b c) 0 < 1024
+    small (inl e) = rw e (omega (arith, few, group-of-below b c e))
+    small (inr e) = rw e (omega arith)
+
+    go : Dec (c < 1024) → getD (map (λ (d : ℕ). cond (has (b .cells) d) (groupOf b d) 0) (range 0 1024)) c 0 < 1024
+    go (yes l) = rw (range-made (λ (d : ℕ). cond (has (b .cells) d) (groupOf b d) 0) 0 1024 c 0 l, zero-add c) (small (decided (has (b .cells) c)))
+    go (no l) =
+        let off : getD (map (λ (d : ℕ). cond (has (b .cells) d) (groupOf b d) 0) (range 0 1024)) c 0 ≡ 0 =
+            List·getD-eq-default (map (λ (d : ℕ). cond (has (b .cells) d) (groupOf b d) 0) (range 0 1024)) 0 {n = c} (omega (arith, length-map (range 0 1024) (λ (d : ℕ). cond (has (b .cells) d) (groupOf b d) 0), length-range 0 1024)) in
+        omega (arith, off)
 
 -- cells told by their groups, which are told by a test
 pub told-block : (cells slots rests : List ℕ) (bounds : Bounds) → Combinable (blockFrom cells slots rests bounds) → (r : Grouped) → r ≡ grouped (blockFrom cells slots rests bounds)
@@ -138,8 +159,8 @@ counts-held-next {bs} {ends} {counts} {after} {i} {blocks} held e l reached copi
     own t (yes h) =
         let place : beginAt ends i + i + t - (beginAt ends i + i) ≡ t = omega arith in
         let read : getD after (beginAt ends i + i + t) 0 ≡ getD reached t 0 =
-            copied .at-place (beginAt ends i + i + t)
-            ∙ rw (le-leb (beginAt ends i + i) (beginAt ends i + i + t) (omega arith), lt-ltb (beginAt ends i + i + t) (beginAt ends i + i + (getD ends i 0 - beginAt ends i + 1)) (omega arith), place) in
+        copied .at-place (beginAt ends i + i + t)
+        ∙ rw (le-leb (beginAt ends i + i) (beginAt ends i + i + t) (omega arith), lt-ltb (beginAt ends i + i + t) (beginAt ends i + i + (getD ends i 0 - beginAt ends i + 1)) (omega arith), place) in
         rw (lt-ltb (beginAt ends i + i + t) (getD ends i 0 + i + 1) (omega (arith, h, rise .0)), read) (is t h)
     own t (no h) =
         rw (le-ltb (beginAt ends i + i + t) (getD ends i 0 + i + 1) (omega (arith, rise .0))) (none (decided (possibleCount (blockThere bs i) t)))

@@ -11,7 +11,7 @@ use lib.Dec.{leb, ltb, eqb}
 use lib.ListN.{length, getD, set, length-set, length-append, List·getD-eq-default}
 use lib.Seq.{getD-set-same, getD-set-other}
 use borrow.Author.Tests.{eqb-true, eqb-false, eq-eqb, ne-eqb, le-leb, lt-leb, lt-ltb, le-ltb}
-use Rattle.lists.specs.Lists.{range, keep, has, pad}
+use Rattle.lists.specs.Lists.{range, bit, keep, has, pad}
 use Rattle.lists.proofs.Tests.{Decided, decided}
 use Rattle.lists.proofs.Elements.{getD-any}
 use Rattle.fitting.specs.Equations.{isClosed}
@@ -135,6 +135,18 @@ module _ {n value : ℕ} {before after : List ℕ} (f : FilledTo n value before 
       go : (c : ℕ) → Dec (c < n) → getD after c 0 ≡ cond (eqb (getD before c 0) 2) value (getD before c 0)
       go c (yes l) = f .at-cell c ∙ rw (lt-ltb c n l)
       go c (no l) = let off : getD before c 0 ≡ 0 = List·getD-eq-default before 0 (omega arith) in f .at-cell c ∙ rw (le-ltb c n (omega arith), off)
+
+-- with a value that is the same
+pub filled-value : {value other : ℕ} {before after : List ℕ} → value ≡ other → Filled value before after → Filled other before after
+filled-value e f = rw e at f
+
+-- a mine that is placed is one of the rest
+module _ (rest : ℕ) (t : Bool) where
+  pub rest-some : 0 < rest → bit t ≡ bit (leb 1 rest && t)
+  rest-some h = rw (le-leb 1 rest (omega arith))
+
+  pub rest-none : rest ≤ 0 → 0 ≡ bit (leb 1 rest && t)
+  rest-none h = rw (lt-leb 1 rest (omega arith))
 
 -- ---- cells listed
 

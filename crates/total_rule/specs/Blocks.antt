@@ -15,8 +15,9 @@ use Rattle.totals.specs.Totals.{possibleCount, someMine, someFree}
 use Rattle.totals.specs.Joining.{countsAt}
 
 -- the table of states, with tags below a number
-abbrev pub TableBelow : ℕ → List ℕ → List ℕ → List ℕ → Type 0
-TableBelow first tags keys results = (length tags ≡ 8192) × (length keys ≡ 8192) × (length results ≡ 8192) × ((i : ℕ) → getD tags i 0 < first)
+pub record TableBelow (first : ℕ) (tags keys results : List ℕ) : Type 0 where
+  pub whole : (length tags ≡ 8192) × (length keys ≡ 8192) × (length results ≡ 8192)
+  pub below : (i : ℕ) → getD tags i 0 < first
 
 -- ---- a block
 
