@@ -51,7 +51,7 @@ groups-in-array b combinable c = go (decLt c 1024)
     go (yes l) = rw (range-made (λ (d : ℕ). cond (has (b .cells) d) (groupOf b d) 0) 0 1024 c 0 l, zero-add c) (small (decided (has (b .cells) c)))
     go (no l) =
         let off : getD (map (λ (d : ℕ). cond (has (b .cells) d) (groupOf b d) 0) (range 0 1024)) c 0 ≡ 0 =
-            List·getD-eq-default (map (λ (d : ℕ). cond (has (b .cells) d) (groupOf b d) 0) (range 0 1024)) 0 {n = c} (omega (arith, length-map (range 0 1024) (λ (d : ℕ). cond (has (b .cells) d) (groupOf b d) 0), length-range 0 1024)) in
+        List·getD-eq-default (map (λ (d : ℕ). cond (has (b .cells) d) (groupOf b d) 0) (range 0 1024)) 0 {n = c} (omega (arith, length-map (range 0 1024) (λ (d : ℕ). cond (has (b .cells) d) (groupOf b d) 0), length-range 0 1024)) in
         omega (arith, off)
 
 -- cells told by their groups, which are told by a test

@@ -137,6 +137,7 @@ pub fn join_blocks(
     ensures { λ _. ⌜ ((near : ℕ → List ℕ) (p before : List ℕ) (total : ℕ) → blocksOf set ≡ frontier near p → inside ≡ insideCells near p → rest ≡ minesLeft total p
         → CellsTold (blocksOf set) (length (blocksOf set)) (freeShown (blocksOf set)) before (now (unfilled .entry))
         → CellsTold (blocksOf set) (length (blocksOf set)) (freeStage near p total (blocksOf set) (length (blocksOf set))) before (now (unfilled .exit))) ⌝ }
+    ensures { λ _. ⌜ (length (now (mined .exit)) ≡ 1024) × (length (now (unfilled .exit)) ≡ 1024) ⌝ }
 {
     let cells = set.cells;
     let slots = set.slots;

@@ -157,7 +157,7 @@ returns c =
     let loop = c .before .loop in
     let s = start (c .before) in
     let all : loop .b ≡ length (blocksOf (s .args .set)) = omega (arith, loop .inv .0, c .loop-test .left, blocks-held (s .args .set) (s .pre .0 .0)) in
-    (rw all at (loop .inv .1 .mines), rw all at (loop .inv .1 .frees))
+    (rw all at (loop .inv .1 .mines), (rw all at (loop .inv .1 .frees), (loop .inv .1 .whole-mined, loop .inv .1 .whole-unfilled)))
 
 pub join-blocks-spec : {M : Type 1} → statement M
 join-blocks-spec =
