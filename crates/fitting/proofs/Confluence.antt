@@ -16,7 +16,7 @@ use Rattle.fitting.specs.Boards.{own, Accepted}
 use Rattle.fitting.specs.Solver.{first, solvedAmong, DoneAmong}
 use Rattle.fitting.specs.Demand.{picture, opened, Demand3Among}
 use Rattle.fitting.proofs.Own.{fit-length, first-own, open-safe}
-use Rattle.fitting.proofs.Runs.{Judged, Plain, Kind, run-own, run-open-among, run-kind}
+use Rattle.fitting.proofs.Runs.{Judged, Plain, Kind, run-own, run-open, run-kind}
 use Rattle.fitting.proofs.Solver.{SolverPosition, solver-first, solver-asks}
 use Rattle.fitting.proofs.Covers.{done-covers, asks-cover}
 use Rattle.fitting.proofs.Within.{within-asks, within-done}
@@ -37,7 +37,7 @@ module _ (near : ℕ → List ℕ) (also : List Bool → Bool) (b : List ℕ) (o
 
   within : (cs : List ℕ) (c : ℕ) → shows (solvedAmong near also b s cs) c ≤ 8 → shows q c ≤ 8
   within cs = within-asks near also b ok own-passes s q fit kind (j .ends) (first b s) (solver-first near b ok s on safe)
-      (run-open-among near also b ok own-passes (first-own near b ok s on safe) (j .run)) cs
+      (run-open near also b ok own-passes (first-own near b ok s on safe) (j .run)) cs
 
   -- the picture shows what the solver has open
   same-number : (cs : List ℕ) (c : ℕ) → shows (solvedAmong near also b s cs) c ≤ 8 → shows (picture q) c ≡ shows (solvedAmong near also b s cs) c

@@ -18,7 +18,7 @@ use Rattle.fitting.specs.Passes.{GradedCells, nothing, flood, openCells,
 use Rattle.fitting.specs.Rules.{SoundAmong}
 use Rattle.fitting.proofs.Layouts.{on-board}
 use Rattle.fitting.proofs.Steps.{closed, closed-less, pass-less}
-use Rattle.fitting.proofs.Passes.{passesOn, pass-own-among}
+use Rattle.fitting.proofs.Passes.{passesOn, pass-own}
 
 -- ---- the flood: an opened cell brings at most eight others, and one closed cell less pays for nine
 
@@ -96,7 +96,7 @@ module _ (near : ℕ → List ℕ) (also : List Bool → Bool) (b : List ℕ) (r
   passes-same (suc k) (suc j) p grade rounds fit u v =
       go (decided (allOpen b p)) (decided (nothing (rule p)))
       (λ w. passes-same k j (pass near b p (rule p)) (max grade (rule p .grade)) (rounds + 1)
-      (pass-own-among near also b rule p ok own-passes sound fit) (omega arith) (omega arith))
+      (pass-own near also b rule p ok own-passes sound fit) (omega arith) (omega arith))
     where
       go : Decided (allOpen b p) → Decided (nothing (rule p))
           → (closed (pass near b p (rule p)) < closed p → passesOn near b rule k p grade rounds ≡ passesOn near b rule j p grade rounds)

@@ -24,7 +24,7 @@ use Rattle.fitting.specs.Rules.{Sound, Complete, SoundAmong, CompleteAmo
 use Rattle.fitting.proofs.Layouts.{on-board}
 use Rattle.fitting.proofs.Own.{fit-length, first-own}
 use Rattle.fitting.proofs.Runs.{Run, Stuck, run-join, run-own}
-use Rattle.fitting.proofs.Steps.{beginning, closed, closed-less, begin-run, pass-run-among, pass-less}
+use Rattle.fitting.proofs.Steps.{beginning, closed, closed-less, begin-run, pass-run, pass-less}
 use Rattle.fitting.proofs.Rules.{sound-among, complete-among-any}
 use Rattle.fitting.proofs.Confluence.{demand-3, demand-3-unique}
 
@@ -55,15 +55,10 @@ begin-closed near b s ok l n =
     omega (arith, count-le (λ v. eqb v 10) (beginning near b s), fit-length near b (beginning near b s) (begin-own near b s ok l n))
 
 -- and it fits after a pass, if it did before
-pub pass-own-among : (near : ℕ → List ℕ) (also : List Bool → Bool) (b : List ℕ) (rule : List ℕ → GradedCells) (p : List ℕ) → Accepted near b
+pub pass-own : (near : ℕ → List ℕ) (also : List Bool → Bool) (b : List ℕ) (rule : List ℕ → GradedCells) (p : List ℕ) → Accepted near b
     → also (own b) ≡ true → SoundAmong near also b rule → Fits near p (own b) → Fits near (pass near b p (rule p)) (own b)
-pass-own-among near also b rule p ok own-passes sound fit =
-    run-own near also b ok own-passes fit (pass-run-among near also b ok own-passes rule sound p fit)
-
--- the same on a plain board
-pub pass-own : (near : ℕ → List ℕ) (b : List ℕ) (rule : List ℕ → GradedCells) (p : List ℕ) → Accepted near b → Sound near b rule
-    → Fits near p (own b) → Fits near (pass near b p (rule p)) (own b)
-pass-own near b rule p ok sound fit = pass-own-among near anyLayout b rule p ok refl (sound-among near anyLayout b rule sound) fit
+pass-own near also b rule p ok own-passes sound fit =
+    run-own near also b ok own-passes fit (pass-run near also b ok own-passes rule sound p fit)
 
 -- ---- how the passes end
 
@@ -86,7 +81,7 @@ passes-end near also b rule ok own-passes sound complete zero p grade rounds fit
 passes-end near also b rule ok own-passes sound complete (suc k) p grade rounds fit h =
     go (decided (allOpen b p)) (decided (nothing (rule p)))
     (λ e. passes-end near also b rule ok own-passes sound complete k (pass near b p (rule p)) (max grade (rule p .grade)) (rounds + 1)
-    (pass-own-among near also b rule p ok own-passes sound fit) (omega (arith, pass-less near also b ok own-passes rule sound p fit e)))
+    (pass-own near also b rule p ok own-passes sound fit) (omega (arith, pass-less near also b ok own-passes rule sound p fit e)))
   where
     go : Decided (allOpen b p) → Decided (nothing (rule p)) → (nothing (rule p) ≡ false → Ended near also b (passesOn near b rule k p grade rounds))
         → Ended near also b (passes near b rule (suc k) p grade rounds)
@@ -123,7 +118,7 @@ pub judge-own : (near : ℕ → List ℕ) (also : List Bool → Bool) (b : List 
     → also (own b) ≡ true → s < length b → cellOf b s ≢ 255 → SoundAmong near also b rule → Fits near (judge near b rule s .position) (own b)
 unfolding judge
 judge-own near also b rule s ok own-passes l n sound =
-    passes-keep near b rule (λ p _ _. Fits near p (own b)) (λ p _ _ _ fit. pass-own-among near also b rule p ok own-passes sound fit)
+    passes-keep near b rule (λ p _ _. Fits near p (own b)) (λ p _ _ _ fit. pass-own near also b rule p ok own-passes sound fit)
     (length b) (beginning near b s) 0 0 (begin-own near b s ok l n)
 
 -- ---- demand 3
@@ -140,7 +135,7 @@ judge-demand-3-among near also b rule s ok own-passes l n sound complete =
     let (ends, verdict) = passes-end near also b rule ok own-passes sound complete (length b) p 0 0 begun (begin-closed near b s ok l n) in
     demand-3 near also b s (passes near b rule (length b) p 0 0 .position) (passes near b rule (length b) p 0 0 .yes) ok own-passes l n (record {
       run = passes-keep near b rule (λ q _ _. Run near also b (first b s) q)
-          (λ q _ _ _ r. run-join near also b r (pass-run-among near also b ok own-passes rule sound q (run-own near also b ok own-passes fit r)))
+          (λ q _ _ _ r. run-join near also b r (pass-run near also b ok own-passes rule sound q (run-own near also b ok own-passes fit r)))
           (length b) p 0 0 (begin-run near also b ok own-passes s l n);
       ends = ends;
       verdict = verdict;
@@ -170,25 +165,20 @@ rules-agree near also b rule other s ok own-passes l n sound complete sound-othe
 -- ---- rounds and grade
 
 -- each round leaves fewer closed cells, so that rounds never exceed the cells
-pub rounds-cells-among : (near : ℕ → List ℕ) (also : List Bool → Bool) (b : List ℕ) (rule : List ℕ → GradedCells) (s : ℕ) → Accepted near b
+pub rounds-cells : (near : ℕ → List ℕ) (also : List Bool → Bool) (b : List ℕ) (rule : List ℕ → GradedCells) (s : ℕ) → Accepted near b
     → also (own b) ≡ true → s < length b → cellOf b s ≢ 255 → SoundAmong near also b rule → judge near b rule s .rounds ≤ length b
 unfolding judge
-rounds-cells-among near also b rule s ok own-passes l n sound = omega (arith, kept .1)
+rounds-cells near also b rule s ok own-passes l n sound = omega (arith, kept .1)
   where
     Few : List ℕ → ℕ → ℕ → Type 0
     Few p grade rounds = Fits near p (own b) × (rounds + closed p ≤ length b)
 
     next : Keeps near b rule Few
     next p grade rounds e (fit, few) =
-        (pass-own-among near also b rule p ok own-passes sound fit, omega (arith, pass-less near also b ok own-passes rule sound p fit e, few))
+        (pass-own near also b rule p ok own-passes sound fit, omega (arith, pass-less near also b ok own-passes rule sound p fit e, few))
 
     kept : AtEnd Few (passes near b rule (length b) (beginning near b s) 0 0)
     kept = passes-keep near b rule Few next (length b) (beginning near b s) 0 0 (begin-own near b s ok l n, omega (arith, begin-closed near b s ok l n))
-
--- the same on a plain board
-pub rounds-cells : (near : ℕ → List ℕ) (b : List ℕ) (rule : List ℕ → GradedCells) (s : ℕ) → Accepted near b → s < length b → cellOf b s ≢ 255
-    → Sound near b rule → judge near b rule s .rounds ≤ length b
-rounds-cells near b rule s ok l n sound = rounds-cells-among near anyLayout b rule s ok refl l n (sound-among near anyLayout b rule sound)
 
 -- the greater of two numbers is one of them
 max-either : (P : ℕ → Type 0) (m n : ℕ) → P m → P n → P (max m n)

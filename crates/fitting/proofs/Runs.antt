@@ -62,13 +62,13 @@ module _ (near : ℕ → List ℕ) (also : List Bool → Bool) (b : List ℕ) (o
   run-back (mine {q = q} c r h) m f = run-back r m (before-marked near b ok q (run-own r) c (h (own b) (run-own r) own-passes) m f)
 
   -- what is open stays open
-  pub run-open-among : {q : List ℕ} → Run near also b p q → (c : ℕ) → shows p c ≤ 8 → shows q c ≤ 8
-  run-open-among start = λ c o. o
-  run-open-among (opens {q = q} d r l h) = set-all (λ c v. shows p c ≤ 8 → v ≤ 8) q 255 d (cellOf b d)
-      (λ _. ok .small d l (own-safe b d (h (own b) (run-own r) own-passes))) (run-open-among r)
-  run-open-among (mine {q = q} d r h) = set-all (λ c v. shows p c ≤ 8 → v ≤ 8) q 255 d 11
-      (λ o. clash (mineAt (own b) d) (h (own b) (run-own r) own-passes) (open-free near q (own b) (run-own r) d (run-open-among r d o)))
-      (run-open-among r)
+  pub run-open : {q : List ℕ} → Run near also b p q → (c : ℕ) → shows p c ≤ 8 → shows q c ≤ 8
+  run-open start = λ c o. o
+  run-open (opens {q = q} d r l h) = set-all (λ c v. shows p c ≤ 8 → v ≤ 8) q 255 d (cellOf b d)
+      (λ _. ok .small d l (own-safe b d (h (own b) (run-own r) own-passes))) (run-open r)
+  run-open (mine {q = q} d r h) = set-all (λ c v. shows p c ≤ 8 → v ≤ 8) q 255 d 11
+      (λ o. clash (mineAt (own b) d) (h (own b) (run-own r) own-passes) (open-free near q (own b) (run-own r) d (run-open r d o)))
+      (run-open r)
 
   -- each cell is of one of these kinds, if it was
   pub run-kind : ((c : ℕ) → Kind b c (shows p c)) → {q : List ℕ} → Run near also b p q → (c : ℕ) → Kind b c (shows q c)
@@ -76,8 +76,3 @@ module _ (near : ℕ → List ℕ) (also : List Bool → Bool) (b : List ℕ) (o
   run-kind k (opens {q = q} c r l h) = set-all (λ d v. Kind b d v) q 255 c (cellOf b c)
       (inl (inl (ok .small c l (own-safe b c (h (own b) (run-own r) own-passes))))) (run-kind k r)
   run-kind k (mine {q = q} c r h) = set-all (λ d v. Kind b d v) q 255 c 11 (inr refl) (run-kind k r)
-
--- what is open stays open, on a plain board
-pub run-open : (near : ℕ → List ℕ) (b : List ℕ) → Accepted near b → {p : List ℕ} → Fits near p (own b) → {q : List ℕ} → Run near anyLayout b p q
-    → (c : ℕ) → shows p c ≤ 8 → shows q c ≤ 8
-run-open near b ok fit r = run-open-among near anyLayout b ok refl fit r

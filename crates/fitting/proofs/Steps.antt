@@ -188,16 +188,11 @@ module _ (near : ℕ → List ℕ) (also : List Bool → Bool) (b : List ℕ) (o
 
   module _ (rule : List ℕ → GradedCells) (sound : SoundAmong near also b rule) (p : List ℕ) (fit : Fits near p (own b)) where
     -- a pass is a run
-    pub pass-run-among : Run near also b p (pass near b p (rule p))
+    pub pass-run : Run near also b p (pass near b p (rule p))
     unfolding pass
-    pass-run-among = marks-then-floods p (rule p .safe) (rule p .mines) fit (λ c h. sound .safe p fit c h .1) (λ c h. sound .mines p fit c h .1)
+    pass-run = marks-then-floods p (rule p .safe) (rule p .mines) fit (λ c h. sound .safe p fit c h .1) (λ c h. sound .mines p fit c h .1)
 
     -- a pass that finds a cell leaves fewer closed ones
     pub pass-less : nothing (rule p) ≡ false → closed (pass near b p (rule p)) < closed p
     unfolding pass
     pass-less = fewer-closed p (rule p .safe) (rule p .mines) fit (sound .safe p fit) (sound .mines p fit)
-
--- a pass is a run, on a plain board
-pub pass-run : (near : ℕ → List ℕ) (b : List ℕ) → Accepted near b → (rule : List ℕ → GradedCells) → Sound near b rule
-    → (p : List ℕ) → Fits near p (own b) → Run near anyLayout b p (pass near b p (rule p))
-pass-run near b ok rule sound p fit = pass-run-among near anyLayout b ok refl rule (sound-among near anyLayout b rule sound) p fit

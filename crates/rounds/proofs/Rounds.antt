@@ -15,7 +15,7 @@ use Rattle.grid.specs.Cells.{cellOf, shows}
 use Rattle.fitting.specs.Layouts.{Fits}
 use Rattle.fitting.specs.Boards.{own, Accepted}
 use Rattle.fitting.specs.Passes.{GradedCells, nothing, pass, allOpen, passes, judge}
-use Rattle.fitting.specs.Rules.{Sound}
+use Rattle.fitting.specs.Rules.{SoundAmong}
 use Rattle.fitting.specs.Demand.{picture}
 use Rattle.fitting.proofs.Runs.{run-open}
 use Rattle.fitting.proofs.Steps.{beginning, pass-run}
@@ -109,11 +109,11 @@ module _ (near : ℕ → List ℕ) (b : List ℕ) (rule : List ℕ → GradedCel
 
   -- ---- what is open stays open
 
-  module _ (ok : Accepted near b) (sound : Sound near b rule) (c : ℕ) where
+  module _ (also : List Bool → Bool) (ok : Accepted near b) (own-passes : also (own b) ≡ true) (sound : SoundAmong near also b rule) (c : ℕ) where
     pub stays-open : (k : ℕ) (p : List ℕ) (grade rounds : ℕ) → Fits near p (own b) → shows p c ≤ 8 → shows (passes near b rule k p grade rounds .position) c ≤ 8
     stays-open k p grade rounds fit o =
         passes-keep near b rule (λ q _ _. Fits near q (own b) × (shows q c ≤ 8))
-        (λ q _ _ _ h. (pass-own near b rule q ok sound (h .0), run-open near b ok (h .0) (pass-run near b ok rule sound q (h .0)) c (h .1)))
+        (λ q _ _ _ h. (pass-own near also b rule q ok own-passes sound (h .0), run-open near also b ok own-passes (h .0) (pass-run near also b ok own-passes rule sound q (h .0)) c (h .1)))
         k p grade rounds (fit, o) .1
 
     -- so a cell is open in one of the positions exactly where it is in the last
@@ -122,7 +122,7 @@ module _ (near : ℕ → List ℕ) (b : List ℕ) (rule : List ℕ → GradedCel
     open-in-one zero p grade rounds fit = or-false (openAt c p)
     open-in-one (suc k) p grade rounds fit =
         go (decided (allOpen b p)) (decided (nothing (rule p)))
-        (open-in-one k (pass near b p (rule p)) (max grade (rule p .grade)) (rounds + 1) (pass-own near b rule p ok sound fit))
+        (open-in-one k (pass near b p (rule p)) (max grade (rule p .grade)) (rounds + 1) (pass-own near also b rule p ok own-passes sound fit))
         (λ o. le-leb _ 8 (stays-open (suc k) p grade rounds fit (leb-true (shows p c) 8 o)))
       where
         joined : (t later last : Bool) → later ≡ last → (t ≡ true → last ≡ true) → (t || later) ≡ last
@@ -161,7 +161,7 @@ pub record RoundTells (near : ℕ → List ℕ) (b : List ℕ) (rule : List ℕ 
   pub last-pass : (k : ℕ) → rounds ≡ k + 1 → shows shown c ≤ 8 → ¬ (shows (passes near b rule k (beginning near b s) 0 0 .position) c ≤ 8) → round ≡ rounds
 
 module _ (near : ℕ → List ℕ) (b : List ℕ) (rule : List ℕ → GradedCells) (s : ℕ) (ok : Accepted near b) (l : s < length b) (n : cellOf b s ≢ 255)
-    (sound : Sound near b rule) (small : length b < 65535) (c : ℕ) where
+    (also : List Bool → Bool) (own-passes : also (own b) ≡ true) (sound : SoundAmong near also b rule) (small : length b < 65535) (c : ℕ) where
   abbrev start : List ℕ
   start = beginning near b s
 
@@ -172,7 +172,7 @@ module _ (near : ℕ → List ℕ) (b : List ℕ) (rule : List ℕ → GradedCel
   fits = begin-own near b s ok l n
 
   after : (k : ℕ) → k ≤ length b → (round ≤ k) ↔ (shows (passes near b rule k start 0 0 .position) c ≤ 8)
-  after k within = round-at-most near b rule ok sound c k (length b) start fits within (omega arith)
+  after k within = round-at-most near b rule also ok own-passes sound c k (length b) start fits within (omega arith)
 
   enough : Enough near b rule (length b) start 0 0
   enough = rounds-enough near b rule (length b) start 0 0
@@ -184,7 +184,7 @@ module _ (near : ℕ → List ℕ) (b : List ℕ) (rule : List ℕ → GradedCel
   unfolding judge
   round-tells = record {
     has-round = (
-      λ has. leb-true _ 8 (sym (open-in-one near b rule ok sound c (length b) start 0 0 fits) ∙ round-opened (positions near b rule (length b) start) c has),
+      λ has. leb-true _ 8 (sym (open-in-one near b rule also ok own-passes sound c (length b) start 0 0 fits) ∙ round-opened (positions near b rule (length b) start) c has),
       λ o e. absurd (omega (arith, after (length b) (omega arith) .1 o)),
     );
     at-most = last;

@@ -1,7 +1,7 @@
 -- Rounds and grade of a verdict, for every input: rounds never exceed the cells of the board; the grade is 4 exactly where the verdict is no, and a yes has the
 -- grade of a rule, or 0 where no pass found a cell. A refusal has neither. Rests on `rounds-cells`, `grade-of-a-rule` and `grade-zero` of the crate fitting. Assumes nothing.
 use mathlib.Core.Path.{_≡_, refl, sym, ap}
-use mathlib.Core.Logic.{inl, inr, _↔_}
+use mathlib.Core.Logic.{inl, inr, _↔_, _≢_}
 use mathlib.Core.Bool.{Bool, true, false}
 use mathlib.Core.List.{List, [], _∷_}
 use Prim.Native.Nat.{ℕ, _≤_}
@@ -24,7 +24,8 @@ use Rattle.direct.specs.Found.{ruleOf}
 use Rattle.direct.specs.Direct.{direct}
 use Rattle.subtraction.specs.Minus.{subtraction}
 use Rattle.enumeration.specs.ThreeRules.{threeRules}
-use Rattle.enumeration.proofs.BoardRules.{board-rules-sound}
+use Rattle.verdict.specs.Rules.{layoutsOf}
+use Rattle.verdict.proofs.KindsOfBoard.{own-passes, rules-sound}
 use Rattle.verdict.specs.declared.Verdict.{Verdict}
 use Rattle.verdict.specs.declared.Verdict.the-variants.{Refused, Judged}
 use Rattle.verdict.specs.Verdict.{verdictNumber, verdictYes, verdictGrade, verdictRounds, boardGrade, VerdictSeen, verdictSeen, verdictAfterTests, judgedFrom, isSolvable}
@@ -43,31 +44,36 @@ three-grades near p = go (decided (nothing (ruleOf near direct 1 p))) (decided (
 
 -- ---- what the grade of an answer tells
 
-pub record GradeTells (v : Verdict) : Type 0 where
+-- where the strongest rule has the grade `most`
+pub record GradeTellsUpTo (most : ℕ) (v : Verdict) : Type 0 where
   -- it is 4 exactly where the verdict is no
   pub four : verdictNumber v ≡ 0 → (verdictGrade v ≡ 4) ↔ (verdictYes v ≡ false)
   -- a yes has the grade of a rule
-  pub of-a-rule : verdictYes v ≡ true → verdictGrade v ≤ 3
+  pub of-a-rule : verdictYes v ≡ true → verdictGrade v ≤ most
   -- or 0, exactly where no pass found a cell
   pub none : verdictYes v ≡ true → (verdictGrade v ≡ 0) ↔ (verdictRounds v ≡ 0)
 
--- that of a board does, where the strongest rule's is at most 3, and 0 exactly without a round
-board-grade-tells : (answer : Bool) (n strongest rounds : ℕ) → strongest ≤ 3 → (strongest ≡ 0) ↔ (rounds ≡ 0)
-    → GradeTells (Judged answer n (boardGrade answer strongest) rounds)
-board-grade-tells true n strongest rounds few zero = record {
-  four = λ _. (λ e. absurd (omega (arith, few, e)), λ e. clash true refl e);
-  of-a-rule = λ _. few;
+-- on a plain board that is enumeration
+abbrev pub GradeTells : Verdict → Type 0
+GradeTells v = GradeTellsUpTo 3 v
+
+-- that of a board does, where the strongest rule's is at most so much and is not 4, and 0 exactly without a round
+pub board-grade-tells : (most : ℕ) (answer : Bool) (n strongest rounds : ℕ) → (strongest ≤ most) × (strongest ≢ 4) → (strongest ≡ 0) ↔ (rounds ≡ 0)
+    → GradeTellsUpTo most (Judged answer n (boardGrade answer strongest) rounds)
+board-grade-tells most true n strongest rounds few zero = record {
+  four = λ _. (λ e. absurd (few .1 e), λ e. clash true refl e);
+  of-a-rule = λ _. few .0;
   none = λ _. zero;
 }
-board-grade-tells false n strongest rounds few zero = record {
+board-grade-tells most false n strongest rounds few zero = record {
   four = λ _. (λ _. refl, λ _. refl);
   of-a-rule = λ e. clash true refl (sym e);
   none = λ e. clash true refl (sym e);
 }
 
 -- a refusal has none
-pub refusal-tells : (r : Refusal) → GradeTells (Refused r)
-refusal-tells r = record {
+pub refusal-tells : (most : ℕ) (r : Refusal) → GradeTellsUpTo most (Refused r)
+refusal-tells most r = record {
   four = λ e. absurd (eqb-false (refusalNumber r) 0 (refusal-not-zero r) e);
   of-a-rule = λ e. clash true refl (sym e);
   none = λ e. clash true refl (sym e);
@@ -81,8 +87,8 @@ module _ (near : ℕ → List ℕ) (b : List ℕ) (s : ℕ) where
 
   judged-grade : GradeTells (judgedFrom near b s .answer)
   judged-grade =
-      board-grade-tells (ends .yes) (opened (ends .position)) (ends .grade) (ends .rounds)
-      (grade-of-a-rule near b (threeRules near) s (λ g. g ≤ 3) (omega arith) (λ p _. three-grades near p .1))
+      board-grade-tells 3 (ends .yes) (opened (ends .position)) (ends .grade) (ends .rounds)
+      (grade-of-a-rule near b (threeRules near) s (λ g. (g ≤ 3) × (g ≢ 4)) (omega arith, λ e. omega (arith, e)) (λ p _. (three-grades near p .1, λ e. omega (arith, e, three-grades near p .1))))
       (grade-zero near b (threeRules near) s (λ p _. three-grades near p .0))
 
 -- ---- of the call
@@ -104,7 +110,7 @@ module _ (edgeless : Bool) (rows columns row column : ℕ) (b shown openedIn : L
     where
       go : (t : Tested) → GradeTells (verdictAfterTests t judged shown openedIn .answer)
       go Accepted = judged-grade (neighbours edgeless rows columns) b (startCell columns row column)
-      go (TestRefused x) = refusal-tells x
+      go (TestRefused x) = refusal-tells 3 x
 
   -- rounds never exceed the cells
   pub rounds-at-most-cells : verdictRounds (isSolvable edgeless rows columns row column b shown openedIn .answer) ≤ length b
@@ -114,8 +120,8 @@ module _ (edgeless : Bool) (rows columns row column : ℕ) (b shown openedIn : L
       go : (t : Tested) → tests ≡ t → verdictRounds (verdictAfterTests t judged shown openedIn .answer) ≤ length b
       go Accepted e =
           let accepted = accepted-board edgeless rows columns row column b lent e in
-          rounds-cells (neighbours edgeless rows columns) b (threeRules (neighbours edgeless rows columns)) (startCell columns row column)
-          (tested-accepted edgeless rows columns row column b lent e) (accepted .start-within) (accepted .start-safe) (board-rules-sound edgeless rows columns b)
+          rounds-cells (neighbours edgeless rows columns) (layoutsOf false b) b (threeRules (neighbours edgeless rows columns)) (startCell columns row column)
+          (tested-accepted edgeless rows columns row column b lent e) (own-passes false b) (accepted .start-within) (accepted .start-safe) (rules-sound edgeless rows columns b false)
       go (TestRefused x) e = omega arith
 
   -- so of an answer that is the definition's

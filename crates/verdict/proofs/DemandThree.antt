@@ -1,8 +1,7 @@
 -- Demand 3 of what the verdict answers, whole: for every board that the tests accept, and every list of asks, since the definition of the
--- answer is the passes over the three rules, which are sound and complete. Rests on `judge-demand-3` of the crate fitting and on the three rules' laws of the
--- crate enumeration. Assumes nothing.
+-- answer is the passes over the board's rules, which are sound and complete. Rests on `judge-demand-3-among` of the crate fitting and on KindsOfBoard. Assumes nothing.
 use mathlib.Core.Path.{_≡_, refl, ap, _∙_}
-use mathlib.Core.Bool.{Bool}
+use mathlib.Core.Bool.{Bool, false}
 use mathlib.Core.List.{List, [], _∷_}
 use Prim.Native.Nat.{ℕ}
 use native.Mathlib.Omega.{arith}
@@ -15,13 +14,13 @@ use Rattle.refusals.specs.Tests.{boardTested, startCell}
 use Rattle.refusals.proofs.Accepted.{accepted-board}
 use Rattle.refusals.proofs.FirstFailure.{not-both}
 use Rattle.fitting.specs.Passes.{Ending, judge}
-use Rattle.fitting.specs.Demand.{Demand3, picture, opened}
-use Rattle.fitting.proofs.Passes.{judge-demand-3}
-use Rattle.enumeration.specs.ThreeRules.{threeRules}
-use Rattle.enumeration.proofs.BoardRules.{board-rules-sound, board-rules-complete}
+use Rattle.fitting.specs.Demand.{Demand3Among, picture, opened}
+use Rattle.fitting.proofs.Passes.{judge-demand-3-among}
+use Rattle.verdict.specs.Rules.{rulesOf, layoutsOf}
 use Rattle.verdict.specs.declared.Verdict.{Verdict}
 use Rattle.verdict.specs.declared.Verdict.the-variants.{Refused}
 use Rattle.verdict.specs.Verdict.{VerdictSeen, verdictSeen, judgedFrom, isSolvable, MeetsDemand3}
+use Rattle.verdict.proofs.KindsOfBoard.{own-passes, rules-sound, rules-complete}
 use Rattle.verdict.proofs.Admitted.{tested-accepted}
 
 -- a refusal doesn't meet it
@@ -31,15 +30,16 @@ refusal-never-meets is (has-values, _) = let none : _≡_ {A = ℕ} 0 4 = rw is 
 
 module _ (edgeless : Bool) (rows columns row column : ℕ) (b shown openedIn : List ℕ) where
   -- the start's cell
-  abbrev start : ℕ
+  abbrev pub start : ℕ
   start = startCell columns row column
 
   -- the lengths of the lent slices
-  abbrev lent : List ℕ
+  abbrev pub lent : List ℕ
   lent = length shown ∷ length openedIn ∷ []
 
-  abbrev passed : Ending
-  passed = judge (neighbours edgeless rows columns) b (threeRules (neighbours edgeless rows columns)) start
+  -- how the passes end, with the mine total shown or not
+  abbrev pub passed : Bool → Ending
+  passed total = judge (neighbours edgeless rows columns) b (rulesOf total (neighbours edgeless rows columns) b) start
 
   -- the tests refuse: the answer is their refusal, and both slices stay as they were
   module _ (x : Refusal) (tests : boardTested edgeless rows columns row column b lent ≡ TestRefused x) where
@@ -57,15 +57,18 @@ module _ (edgeless : Bool) (rows columns row column : ℕ) (b shown openedIn : L
     unfolding isSolvable
     tests-accept = rw tests
 
-    passes-demand-3 : Demand3 (neighbours edgeless rows columns) b start (passed .yes) (opened (passed .position)) (picture (passed .position))
-    passes-demand-3 =
+    -- with the mine total shown or not
+    pub passes-demand-3 : (total : Bool)
+        → Demand3Among (neighbours edgeless rows columns) (layoutsOf total b) b start (passed total .yes) (opened (passed total .position)) (picture (passed total .position))
+    passes-demand-3 total =
         let accepted = accepted-board edgeless rows columns row column b lent tests in
-        judge-demand-3 (neighbours edgeless rows columns) b (threeRules (neighbours edgeless rows columns)) start (tested-accepted edgeless rows columns row column b lent tests)
-        (accepted .start-within) (accepted .start-safe) (board-rules-sound edgeless rows columns b) (board-rules-complete edgeless rows columns b)
+        judge-demand-3-among (neighbours edgeless rows columns) (layoutsOf total b) b (rulesOf total (neighbours edgeless rows columns) b) start
+        (tested-accepted edgeless rows columns row column b lent tests) (own-passes total b) (accepted .start-within) (accepted .start-safe)
+        (rules-sound edgeless rows columns b total) (rules-complete edgeless rows columns b total)
 
     -- demand 3 of an answer that is the definition's
     pub answer-demand-3 : (r : Verdict) (after rounds : List ℕ) → verdictSeen r after rounds ≡ isSolvable edgeless rows columns row column b shown openedIn
         → MeetsDemand3 (neighbours edgeless rows columns) b (startCell columns row column) r after
     answer-demand-3 r after rounds e =
         let told = e ∙ tests-accept in
-        rw (ap (λ (w : VerdictSeen). w .answer) told, ap (λ (w : VerdictSeen). w .shown) told) (refl, rw (bit-is-one (passed .yes)) passes-demand-3)
+        rw (ap (λ (w : VerdictSeen). w .answer) told, ap (λ (w : VerdictSeen). w .shown) told) (refl, rw (bit-is-one (passed false .yes)) (passes-demand-3 false))

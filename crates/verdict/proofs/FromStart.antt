@@ -18,18 +18,17 @@ use Rattle.grid.specs.Window.{neighbours, Board}
 use Rattle.fitting.specs.Layouts.{Fits}
 use Rattle.fitting.specs.Boards.{Accepted, own}
 use Rattle.fitting.specs.Demand.{picture, opened}
-use Rattle.fitting.specs.Passes.{openCells, Ending, judge}
+use Rattle.fitting.specs.Passes.{GradedCells, openCells, Ending, judge}
 use Rattle.fitting.proofs.Own.{fit-length}
 use Rattle.fitting.proofs.Steps.{beginning}
 use Rattle.fitting.proofs.Passes.{begin-own}
-use Rattle.enumeration.specs.ThreeRules.{threeRules}
 use Rattle.rounds.specs.Rounds.{roundsOf, judgeRounds}
 use Rattle.rounds.specs.GivenRounds.{roundGiven}
 use Rattle.rounds.proofs.GivenRounds.{given-next}
 use Rattle.verdict.specs.declared.passes.Ending.{Ending as PassesEnd}
 use Rattle.verdict.specs.declared.Verdict.the-variants.{Judged}
 use Rattle.verdict.specs.Findings.{endOf}
-use Rattle.verdict.specs.Verdict.{boardGrade, verdictSeen, judgedFrom}
+use Rattle.verdict.specs.Verdict.{boardGrade, verdictSeen, judgedBy}
 use Rattle.verdict.proofs.Underway.{Ends}
 
 -- an array that is all closed
@@ -78,19 +77,19 @@ module _ (edgeless : Bool) {rows columns : ℕ} {b : List ℕ} (board : Board b 
     first-board = record { sized = board .sized; whole = fit-length (neighbours edgeless rows columns) b first first-own ∙ board .whole }
 
     -- how the passes from there end is how the verdict does
-    pub first-ends : {e : Ending} {openedIn : List ℕ}
-        → Ends (neighbours edgeless rows columns) b (threeRules (neighbours edgeless rows columns)) (length b) first e openedIn
-        → (endOf e ≡ endOf (judge (neighbours edgeless rows columns) b (threeRules (neighbours edgeless rows columns)) s))
-        × ((e .position ≡ judge (neighbours edgeless rows columns) b (threeRules (neighbours edgeless rows columns)) s .position)
-        × (openedIn ≡ judgeRounds (neighbours edgeless rows columns) b (threeRules (neighbours edgeless rows columns)) s))
+    pub first-ends : (rule : List ℕ → GradedCells) {e : Ending} {openedIn : List ℕ}
+        → Ends (neighbours edgeless rows columns) b rule (length b) first e openedIn
+        → (endOf e ≡ endOf (judge (neighbours edgeless rows columns) b rule s))
+        × ((e .position ≡ judge (neighbours edgeless rows columns) b rule s .position)
+        × (openedIn ≡ judgeRounds (neighbours edgeless rows columns) b rule s))
     unfolding judge judgeRounds
-    first-ends (ends, told) = rw (sym first-begins, ends, told) (refl, (refl, refl))
+    first-ends rule (ends, told) = rw (sym first-begins, ends, told) (refl, (refl, refl))
 
   -- and what is seen is the end of the passes
-  pub passes-told : {e : PassesEnd} {last : List ℕ}
-      → e ≡ endOf (judge (neighbours edgeless rows columns) b (threeRules (neighbours edgeless rows columns)) s)
-      → last ≡ judge (neighbours edgeless rows columns) b (threeRules (neighbours edgeless rows columns)) s .position
-      → {openedIn : List ℕ} → openedIn ≡ judgeRounds (neighbours edgeless rows columns) b (threeRules (neighbours edgeless rows columns)) s
+  pub passes-told : (rule : List ℕ → GradedCells) {e : PassesEnd} {last : List ℕ}
+      → e ≡ endOf (judge (neighbours edgeless rows columns) b rule s)
+      → last ≡ judge (neighbours edgeless rows columns) b rule s .position
+      → {openedIn : List ℕ} → openedIn ≡ judgeRounds (neighbours edgeless rows columns) b rule s
       → {n grade : ℕ} {shown : List ℕ} → n ≡ opened last → shown ≡ picture last → grade ≡ boardGrade (e .yes) (e .grade)
-      → verdictSeen (Judged (e .yes) n grade (e .rounds)) shown openedIn ≡ judgedFrom (neighbours edgeless rows columns) b s
-  passes-told ends at rounds count shows graded = rw (graded, count, shows, at, ends, rounds)
+      → verdictSeen (Judged (e .yes) n grade (e .rounds)) shown openedIn ≡ judgedBy (neighbours edgeless rows columns) b rule s
+  passes-told rule ends at rounds count shows graded = rw (graded, count, shows, at, ends, rounds)

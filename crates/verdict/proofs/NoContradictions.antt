@@ -1,8 +1,8 @@
 -- In the verdict no rule refuses: the board's own layout fits each position that the passes come to, so that no rule meets a contradiction there. Rests on
 -- `begin-own` and `pass-own` of the crate fitting and on the soundness of the rules. Assumes nothing.
-use mathlib.Core.Path.{_≡_}
+use mathlib.Core.Path.{_≡_, refl}
 use mathlib.Core.Logic.{_≢_}
-use mathlib.Core.Bool.{Bool, false}
+use mathlib.Core.Bool.{Bool, true, false}
 use mathlib.Core.List.{List}
 use Prim.Native.Nat.{ℕ, _<_}
 use lib.ListN.{length}
@@ -12,10 +12,10 @@ use Rattle.grid.proofs.Neighbours.{neighbours-nodup, neighbours-few}
 use Rattle.refusals.specs.declared.Tested.the-variants.{Accepted}
 use Rattle.refusals.specs.Tests.{boardTested, startCell}
 use Rattle.refusals.proofs.Accepted.{accepted-board}
-use Rattle.fitting.specs.Layouts.{Fits}
+use Rattle.fitting.specs.Layouts.{Fits, anyLayout}
 use Rattle.fitting.specs.Boards.{Accepted as AcceptedBoard, own}
 use Rattle.fitting.specs.Passes.{GradedCells, pass, judge}
-use Rattle.fitting.specs.Rules.{Sound}
+use Rattle.fitting.specs.Rules.{SoundAmong}
 use Rattle.fitting.proofs.Steps.{beginning}
 use Rattle.fitting.proofs.Passes.{begin-own, pass-own, passes-keep}
 use Rattle.frontier.specs.Frontier.{frontier}
@@ -25,8 +25,8 @@ use Rattle.subtraction.specs.Minus.{subtraction}
 use Rattle.subtraction.proofs.Soundness.{subtraction-sound-at}
 use Rattle.enumeration.specs.Enumeration.{enumerated}
 use Rattle.enumeration.specs.ThreeRules.{threeRules}
-use Rattle.enumeration.proofs.BoardRules.{board-rules-sound}
 use Rattle.enumeration.proofs.Completeness.{enumeration-sound-at}
+use Rattle.verdict.proofs.KindsOfBoard.{rules-sound}
 use Rattle.verdict.proofs.Admitted.{tested-accepted}
 
 -- the positions that the passes from the start s come to
@@ -41,10 +41,10 @@ module _ (near : ℕ → List ℕ) (b : List ℕ) (rule : List ℕ → GradedCel
   ends-on-the-way = passes-keep near b rule (λ p _ _. OnTheWay near b rule s p) (λ p _ _ _ w. goes-on w) (length b) (beginning near b s) 0 0 begins
 
   -- the board's own layout fits each
-  pub own-on-the-way : AcceptedBoard near b → s < length b → cellOf b s ≢ 255 → Sound near b rule
+  pub own-on-the-way : (also : List Bool → Bool) → AcceptedBoard near b → also (own b) ≡ true → s < length b → cellOf b s ≢ 255 → SoundAmong near also b rule
       → {p : List ℕ} → OnTheWay near b rule s p → Fits near p (own b)
-  own-on-the-way ok l safe sound begins = begin-own near b s ok l safe
-  own-on-the-way ok l safe sound (goes-on {p = p} w) = pass-own near b rule p ok sound (own-on-the-way ok l safe sound w)
+  own-on-the-way also ok passes l safe sound begins = begin-own near b s ok l safe
+  own-on-the-way also ok passes l safe sound (goes-on {p = p} w) = pass-own near also b rule p ok passes sound (own-on-the-way also ok passes l safe sound w)
 
 -- none of the three rules meets a contradiction at a position
 pub record NoContradiction (near : ℕ → List ℕ) (p : List ℕ) : Type 0 where
@@ -61,8 +61,8 @@ module _ (edgeless : Bool) (rows columns row column : ℕ) (b lent : List ℕ) (
       let once = neighbours-nodup edgeless rows columns in
       let few = neighbours-few edgeless rows columns in
       let accepted = accepted-board edgeless rows columns row column b lent tests in
-      let fit = own-on-the-way near b (threeRules near) (startCell columns row column) (tested-accepted edgeless rows columns row column b lent tests)
-      (accepted .start-within) (accepted .start-safe) (board-rules-sound edgeless rows columns b) way in
+      let fit = own-on-the-way near b (threeRules near) (startCell columns row column) anyLayout (tested-accepted edgeless rows columns row column b lent tests) refl
+      (accepted .start-within) (accepted .start-safe) (rules-sound edgeless rows columns b false) way in
       record {
         by-direct = direct-sound-at near once few p .no-contradiction (own b) fit;
         by-subtraction = subtraction-sound-at near once few p .no-contradiction (own b) fit;

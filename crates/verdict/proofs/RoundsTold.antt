@@ -2,7 +2,7 @@
 -- the verdict's rounds, round 0 is the start's flood, and what the last pass opened has the number of rounds. Rests on `round-tells` of the crate rounds.
 -- Assumes nothing.
 use mathlib.Core.Path.{_≡_, ap, _∙_}
-use mathlib.Core.Bool.{Bool}
+use mathlib.Core.Bool.{Bool, false}
 use mathlib.Core.List.{List, [], _∷_}
 use Prim.Native.Nat.{ℕ, _<_}
 use native.Mathlib.Omega.{arith}
@@ -14,12 +14,13 @@ use Rattle.refusals.specs.Tests.{boardTested, startCell}
 use Rattle.refusals.proofs.Accepted.{accepted-board}
 use Rattle.fitting.specs.Passes.{judge}
 use Rattle.enumeration.specs.ThreeRules.{threeRules}
-use Rattle.enumeration.proofs.BoardRules.{board-rules-sound}
 use Rattle.rounds.specs.Rounds.{judgeRounds}
 use Rattle.rounds.proofs.Rounds.{RoundTells, round-tells, tells-picture}
 use Rattle.rounds.proofs.GivenRounds.{rounds-at}
+use Rattle.verdict.specs.Rules.{rulesOf, layoutsOf}
 use Rattle.verdict.specs.declared.Verdict.{Verdict}
 use Rattle.verdict.specs.Verdict.{verdictRounds, VerdictSeen, verdictSeen, isSolvable}
+use Rattle.verdict.proofs.KindsOfBoard.{own-passes, rules-sound}
 use Rattle.verdict.proofs.Admitted.{tested-accepted}
 use Rattle.verdict.proofs.DemandThree.{tests-accept}
 
@@ -31,16 +32,16 @@ module _ (edgeless : Bool) (rows columns row column : ℕ) (b shown openedIn : L
   abbrev start : ℕ
   start = startCell columns row column
 
-  -- the round of a cell in the definition's slice
-  judged-round : (c : ℕ) → c < length b
-      → RoundTells near b (threeRules near) start (judge near b (threeRules near) start .position) (judge near b (threeRules near) start .rounds) c
-      (getD (judgeRounds near b (threeRules near) start) c 65535)
+  -- the round of a cell in the definition's slice, with the mine total shown or not
+  pub judged-round : (total : Bool) (c : ℕ) → c < length b
+      → RoundTells near b (rulesOf total near b) start (judge near b (rulesOf total near b) start .position) (judge near b (rulesOf total near b) start .rounds) c
+      (getD (judgeRounds near b (rulesOf total near b) start) c 65535)
   unfolding judgeRounds
-  judged-round c on =
+  judged-round total c on =
       let accepted = accepted-board edgeless rows columns row column b _ tests in
       rw (rounds-at _ (length b) c 65535 on)
-      (round-tells near b (threeRules near) start (tested-accepted edgeless rows columns row column b _ tests)
-      (accepted .start-within) (accepted .start-safe) (board-rules-sound edgeless rows columns b)
+      (round-tells near b (rulesOf total near b) start (tested-accepted edgeless rows columns row column b _ tests)
+      (accepted .start-within) (accepted .start-safe) (layoutsOf total b) (own-passes total b) (rules-sound edgeless rows columns b total)
       (omega (arith, accepted .board .whole, few-cells (accepted .board .sized))) c)
 
   -- so of an answer that is the definition's
@@ -49,4 +50,4 @@ module _ (edgeless : Bool) (rows columns row column : ℕ) (b shown openedIn : L
   answer-rounds r after rounds e c on =
       let told = e ∙ tests-accept edgeless rows columns row column b shown openedIn tests in
       rw (ap (λ (w : VerdictSeen). w .answer) told, ap (λ (w : VerdictSeen). w .shown) told, ap (λ (w : VerdictSeen). w .openedIn) told)
-      (tells-picture _ (judged-round c on))
+      (tells-picture _ (judged-round false c on))

@@ -11,7 +11,7 @@ use lib.ListN.{length, length-append}
 use Rattle.fitting.specs.Layouts.{Fits}
 use Rattle.fitting.specs.Boards.{Accepted, own}
 use Rattle.fitting.specs.Passes.{GradedCells, nothing, pass, allOpen, Ending, ending, passes}
-use Rattle.fitting.specs.Rules.{Sound}
+use Rattle.fitting.specs.Rules.{SoundAmong}
 use Rattle.fitting.proofs.Passes.{pass-own}
 use Rattle.rounds.specs.Rounds.{positions, roundsOf}
 use Rattle.rounds.specs.GivenRounds.{roundGiven}
@@ -68,14 +68,14 @@ module _ (near : ℕ → List ℕ) (b : List ℕ) (rule : List ℕ → GradedCel
       ends-stuck e = (sym (u .same-end) ∙ rw (less, shut, e), last-position (rw (less, shut, e)))
 
       -- a pass finds a cell, and what it opens is given its number
-      pub underway-next : Accepted near b → Sound near b rule → nothing (rule p) ≡ false → rounds < 1024
+      pub underway-next : (also : List Bool → Bool) → Accepted near b → also (own b) ≡ true → SoundAmong near also b rule → nothing (rule p) ≡ false → rounds < 1024
           → (q : List ℕ) → q ≡ pass near b p (rule p) → (g : ℕ) → g ≡ max grade (rule p .grade)
           → (given : List ℕ) → given ≡ roundGiven (rounds + 1) q openedIn → Underway n p₀ (k + 1) q g (rounds + 1) given
-      underway-next ok sound e few q is g greatest given gives =
+      underway-next also ok own-passes sound e few q is g greatest given gives =
           let long : length (u .earlier ++ (p ∷ [])) ≡ rounds + 1 = length-append (u .earlier) (p ∷ []) ∙ omega (arith, u .one-a-round) in
           record {
             same-end = rw (is, greatest) (rw (less, shut, e) at (u .same-end));
-            own-fits = rw is (pass-own near b rule p ok sound (u .own-fits));
+            own-fits = rw is (pass-own near also b rule p ok own-passes sound (u .own-fits));
             counted = omega (arith, u .counted);
             earlier = u .earlier ++ (p ∷ []);
             one-a-round = long;

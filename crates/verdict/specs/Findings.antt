@@ -2,10 +2,14 @@
 -- of the rule its grade. Assumes nothing.
 use mathlib.Core.Path.{_≡_}
 use mathlib.Core.Bool.{Bool, not, cond, _&&_}
+use mathlib.Core.List.{List}
 use Prim.Native.Nat.{ℕ}
 use lib.Dec.{eqb}
 use Rattle.lists.specs.Lists.{has}
-use Rattle.fitting.specs.Passes.{GradedCells, Ending}
+use Rattle.fitting.specs.Layouts.{ofTotal}
+use Rattle.fitting.specs.Passes.{GradedCells, Ending, orElse}
+use Rattle.fitting.specs.ForcedCells.{forcedCells}
+use Rattle.enumeration.specs.ThreeRules.{threeRules}
 use Rattle.marks.specs.CellLists.{listIn, Below}
 use Rattle.direct.specs.declared.answer.Lists.{Lists}
 use Rattle.verdict.specs.declared.finding.Finding.{Finding}
@@ -38,3 +42,9 @@ laterFinding second third = cond (foundCell second) (gradedFinding second 2) (gr
 -- the struct of an ending: all of it but the position
 abbrev pub endOf : Ending → PassesEnd
 endOf e = record { yes = e .yes; grade = e .grade; rounds = e .rounds }
+
+-- ---- the rules of a pass
+
+-- what they find, given whether the total is shown, and the total
+abbrev pub rulesAt : Bool → ℕ → (ℕ → List ℕ) → List ℕ → GradedCells
+rulesAt shown total near = cond shown (orElse (threeRules near) (forcedCells near (ofTotal total) 5)) (threeRules near)

@@ -7,15 +7,18 @@ use Prim.Native.Nat.{ℕ}
 use lib.Dec.{eqb}
 use lib.ListN.{length, getD}
 use Rattle.lists.specs.Lists.{bit}
-use Rattle.grid.specs.Window.{neighbours}
+use Rattle.grid.specs.Window.{flat, neighbours}
 use Rattle.refusals.specs.declared.Tested.{Tested}
 use Rattle.refusals.specs.declared.Tested.the-variants.{Accepted, Refused as TestRefused}
 use Rattle.refusals.specs.Refusals.{refusalNumber}
 use Rattle.refusals.specs.Tests.{boardTested, startCell}
-use Rattle.fitting.specs.Passes.{Ending, judge}
+use Rattle.fitting.specs.Passes.{GradedCells, Ending, judge}
 use Rattle.rounds.specs.Rounds.{judgeRounds}
-use Rattle.fitting.specs.Demand.{Demand3, picture, opened}
+use Rattle.fitting.specs.Layouts.{ofTotal}
+use Rattle.fitting.specs.Boards.{mineTotal}
+use Rattle.fitting.specs.Demand.{Demand3, Demand3Among, picture, opened}
 use Rattle.enumeration.specs.ThreeRules.{threeRules}
+use Rattle.verdict.specs.Rules.{fourRules}
 use Rattle.verdict.specs.declared.Verdict.{Verdict}
 use Rattle.verdict.specs.declared.Verdict.the-variants.{Refused, Judged}
 
@@ -60,9 +63,13 @@ verdictSeen a shown openedIn = record { answer = a; shown = shown; openedIn = op
 abbrev pub endSeen : Ending → List ℕ → VerdictSeen
 endSeen e openedIn = verdictSeen (Judged (e .yes) (opened (e .position)) (boardGrade (e .yes) (e .grade)) (e .rounds)) (picture (e .position)) openedIn
 
--- the verdict from a safe cell, the start's
+-- the verdict from a safe cell, the start's, by any rules
+abbrev pub judgedBy : (ℕ → List ℕ) → List ℕ → (List ℕ → GradedCells) → ℕ → VerdictSeen
+judgedBy near b rule s = endSeen (judge near b rule s) (judgeRounds near b rule s)
+
+-- by the three
 abbrev pub judgedFrom : (ℕ → List ℕ) → List ℕ → ℕ → VerdictSeen
-judgedFrom near b s = endSeen (judge near b (threeRules near) s) (judgeRounds near b (threeRules near) s)
+judgedFrom near b s = judgedBy near b (threeRules near) s
 
 -- the tests first; a refusal leaves both slices as they were
 abbrev pub verdictAfterTests : Tested → VerdictSeen → List ℕ → List ℕ → VerdictSeen
@@ -77,3 +84,15 @@ isSolvable edgeless rows columns row column b shown openedIn =
 -- demand 3 of an answer that has its four values, as every answer but a refusal has
 abbrev pub MeetsDemand3 : (ℕ → List ℕ) → List ℕ → ℕ → Verdict → List ℕ → Type 0
 MeetsDemand3 near b s v shown = (length (verdictValues v) ≡ 4) × Demand3 near b s (verdictYes v) (verdictOpened v) shown
+
+-- ---- boards that show their mine total, which have an edge: the same tests, and the passes over the four rules
+
+unfoldable pub isSolvableTotal : ℕ → ℕ → ℕ → ℕ → List ℕ → List ℕ → List ℕ → VerdictSeen
+isSolvableTotal rows columns row column b shown openedIn =
+    verdictAfterTests (boardTested flat rows columns row column b (length shown ∷ length openedIn ∷ []))
+    (judgedBy (neighbours flat rows columns) b (fourRules (neighbours flat rows columns) b) (startCell columns row column)) shown openedIn
+
+-- demand 3 with the layouts that hold exactly as many mines as the board
+abbrev pub MeetsDemand3Total : (ℕ → List ℕ) → List ℕ → ℕ → Verdict → List ℕ → Type 0
+MeetsDemand3Total near b s v shown =
+    (length (verdictValues v) ≡ 4) × Demand3Among near (ofTotal (mineTotal b)) b s (verdictYes v) (verdictOpened v) shown

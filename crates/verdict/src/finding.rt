@@ -1,4 +1,5 @@
-// What one pass finds at a position: the direct rule's cells, else those of subtraction, else those of enumeration, with the grade of the rule that found them.
+// What one pass finds at a position: the direct rule's cells, else those of subtraction, else those of enumeration, and on a board that shows its mine total else
+// those of the total, with the grade of the rule that found them.
 use blocks::BlockSet;
 use direct::answer::Lists;
 use direct::answer::lists_of;
@@ -8,11 +9,13 @@ use frontier::read_blocks;
 use marks::listing::CellList;
 use sources::equations::read_equations;
 use subtraction::minus_cells;
+use total_rule::find_by_total;
 ghost use mathlib.Core.Path.{_≡_};
-ghost use mathlib.Core.Bool.{Bool};
+ghost use mathlib.Core.Bool.{Bool, true};
 ghost use mathlib.Core.List.{List, List·Memᴰ};
 ghost use Rattle.grid.specs.Window.{neighbours, Board};
 ghost use Prim.Native.Nat.{_*_};
+ghost use Rattle.lists.specs.Lists.{count};
 ghost use Rattle.fitting.specs.Layouts.{Fits};
 ghost use Rattle.blocks.specs.Blocks.{Block};
 ghost use Rattle.blocks.specs.BlockSets.{blocksOf, Whole};
@@ -22,7 +25,7 @@ ghost use Rattle.subtraction.specs.Pairs.{minusLists};
 ghost use Rattle.groups.specs.Grouping.{Combinable};
 ghost use Rattle.enumeration.specs.Enumeration.{enumerated};
 ghost use Rattle.enumeration.specs.ThreeRules.{threeRules};
-ghost use Rattle.verdict.specs.Findings.{Finds, gradedFinding, foundCell, laterFinding};
+ghost use Rattle.verdict.specs.Findings.{Finds, gradedFinding, foundCell, laterFinding, rulesAt};
 
 // Two lists of cells, and a grade.
 pub struct Finding {
@@ -77,4 +80,27 @@ pub fn find_cells(edgeless: bool, rows: usize, columns: usize, position: &[u8]) 
         return graded(direct, 1);
     }
     find_in_blocks(read_blocks(edgeless, rows, columns, position))
+}
+
+// What a pass finds, where the board shows its mine total or not: the total is asked only where the three rules find nothing.
+pub fn find_in_pass(
+    edgeless: bool,
+    rows: usize,
+    columns: usize,
+    position: &[u8],
+    shows_total: bool,
+    total: usize,
+) -> Finding
+    requires { ⌜ Board (now position) rows columns ⌝ }
+    requires { ⌜ ((m : List Bool) × Fits (neighbours edgeless rows columns) (now position) m × («shows_total» ≡ true → count (λ x. x) m ≡ total)) ⌝ }
+    ensures { λ r. ⌜ Finds (rows * columns) (rulesAt «shows_total» total (neighbours edgeless rows columns) (now (position .entry))) r ⌝ }
+{
+    let found = find_cells(edgeless, rows, columns, position);
+    if !shows_total {
+        return found;
+    }
+    if found.safe.count + found.mines.count != 0 {
+        return found;
+    }
+    graded(find_by_total(edgeless, rows, columns, position, total), 5)
 }

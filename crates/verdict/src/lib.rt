@@ -16,13 +16,14 @@ ghost use mathlib.Core.List.{[], _∷_};
 ghost use Prim.Native.Nat.{_*_, _<_};
 ghost use lib.ListN.{length, replicate};
 ghost use Rattle.grid.specs.Cells.{cellOf};
-ghost use Rattle.grid.specs.Window.{neighbours, Board};
+ghost use Rattle.grid.specs.Window.{flat, neighbours, Board};
 ghost use Rattle.refusals.specs.declared.Tested.the-variants.{Accepted as TestAccepted};
 ghost use Rattle.refusals.specs.Tests.{boardTested, startCell};
 ghost use Rattle.fitting.specs.Boards.{Accepted};
 ghost use Rattle.fitting.specs.Demand.{picture as pictureOf, opened};
 ghost use Rattle.rounds.specs.Rounds.{roundsOf};
-ghost use Rattle.verdict.specs.Verdict.{boardGrade, verdictSeen, judgedFrom, isSolvable, MeetsDemand3};
+ghost use Rattle.verdict.specs.Rules.{rulesOf};
+ghost use Rattle.verdict.specs.Verdict.{boardGrade, verdictSeen, judgedBy, isSolvable, MeetsDemand3, isSolvableTotal, MeetsDemand3Total};
 
 // What the verdict answers: a refusal, or yes or no, the opened cells, the grade and the rounds.
 pub enum Verdict {
@@ -54,9 +55,10 @@ fn board_grade(yes: bool, strongest: usize) -> usize
     if yes { strongest } else { 4 }
 }
 
-// The verdict of an accepted board from its start's cell, which is safe. The position after the start stands in `first`, which is lent with every cell closed, and the
+// The verdict of an accepted board from its start's cell, which is safe, with the mine total shown or not. The position after the start stands in `first`, which is lent with every cell closed, and the
 // passes work in `position`; no cell has a round when `opened_in` is lent.
 fn judge_from(
+    shows_total: bool,
     edgeless: bool,
     rows: usize,
     columns: usize,
@@ -71,9 +73,10 @@ fn judge_from(
     requires { ⌜ Accepted (neighbours edgeless rows columns) (now cells) ⌝ }
     requires { ⌜ (start < length (now cells)) × (cellOf (now cells) start ≢ 255) × (now first ≡ replicate (length (now cells)) 10) ⌝ }
     requires { ⌜ now «opened_in» ≡ roundsOf [] (length (now cells)) ⌝ }
-    ensures { λ r. ⌜ verdictSeen r (now (picture .exit)) (now («opened_in» .exit)) ≡ judgedFrom (neighbours edgeless rows columns) (now (cells .entry)) start ⌝ }
+    ensures { λ r. ⌜ verdictSeen r (now (picture .exit)) (now («opened_in» .exit)) ≡ judgedBy (neighbours edgeless rows columns) (now (cells .entry)) (rulesOf «shows_total» (neighbours edgeless rows columns) (now (cells .entry))) start ⌝ }
 {
     let end = run_passes(
+        shows_total,
         edgeless,
         rows,
         columns,
@@ -90,6 +93,7 @@ fn judge_from(
 
 // The same, with positions of its own, where every cell is closed, and no round yet.
 fn judge(
+    shows_total: bool,
     edgeless: bool,
     rows: usize,
     columns: usize,
@@ -102,13 +106,14 @@ fn judge(
     requires { ⌜ Accepted (neighbours edgeless rows columns) (now cells) ⌝ }
     requires { ⌜ (start < length (now cells)) × (cellOf (now cells) start ≢ 255) ⌝ }
     requires { ⌜ length (now «opened_in») ≡ rows * columns ⌝ }
-    ensures { λ r. ⌜ verdictSeen r (now (picture .exit)) (now («opened_in» .exit)) ≡ judgedFrom (neighbours edgeless rows columns) (now (cells .entry)) start ⌝ }
+    ensures { λ r. ⌜ verdictSeen r (now (picture .exit)) (now («opened_in» .exit)) ≡ judgedBy (neighbours edgeless rows columns) (now (cells .entry)) (rulesOf «shows_total» (neighbours edgeless rows columns) (now (cells .entry))) start ⌝ }
 {
     let mut first = [10u8; 1024];
     let mut position = [10u8; 1024];
     let n = cells.len();
     no_rounds(opened_in);
     judge_from(
+        shows_total,
         edgeless,
         rows,
         columns,
@@ -150,7 +155,41 @@ pub fn is_solvable(
         Tested::Refused(refusal) => Verdict::Refused(refusal),
         Tested::Accepted => {
             let start = start_cell(rows, columns, start_row, start_column);
-            judge(edgeless, rows, columns, cells, start, picture, opened_in)
+            judge(
+                false,
+                edgeless,
+                rows,
+                columns,
+                cells,
+                start,
+                picture,
+                opened_in,
+            )
+        }
+    }
+}
+
+// The same of a board that shows its mine total, which is that of its own mines: the passes have a fourth rule, which knows it.
+pub fn is_solvable_total(
+    rows: usize,
+    columns: usize,
+    start_row: usize,
+    start_column: usize,
+    cells: &[u8],
+    picture: &mut [u8],
+    opened_in: &mut [u16],
+) -> Verdict
+    ensures { λ r. ⌜ verdictSeen r (now (picture .exit)) (now («opened_in» .exit))
+        ≡ isSolvableTotal rows columns «start_row» «start_column» (now (cells .entry)) (now (picture .entry)) (now («opened_in» .entry)) ⌝ }
+    ensures { λ r. ⌜ (boardTested flat rows columns «start_row» «start_column» (now (cells .entry)) (length (now (picture .entry)) ∷ length (now («opened_in» .entry)) ∷ []) ≡ TestAccepted
+        → MeetsDemand3Total (neighbours flat rows columns) (now (cells .entry)) (startCell columns «start_row» «start_column») r (now (picture .exit))) ⌝ }
+{
+    let lent = [picture.len(), opened_in.len()];
+    match test_board(false, rows, columns, start_row, start_column, cells, &lent) {
+        Tested::Refused(refusal) => Verdict::Refused(refusal),
+        Tested::Accepted => {
+            let start = start_cell(rows, columns, start_row, start_column);
+            judge(true, false, rows, columns, cells, start, picture, opened_in)
         }
     }
 }

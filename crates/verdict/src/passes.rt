@@ -1,22 +1,23 @@
 // The passes: each marks the mines and opens the safe cells that the rules find, until all safe cells are open or a pass finds nothing.
 use super::finding::Finding;
-use super::finding::find_cells;
+use super::finding::find_in_pass;
 use marks::write_at_cells;
 use rounds::open_in_round;
 ghost use mathlib.Core.Path.{_≡_};
+ghost use mathlib.Core.Bool.{true};
 ghost use mathlib.Core.List.{[], _∷_};
 ghost use Rattle.grid.specs.Cells.{cellOf};
 ghost use Rattle.grid.specs.Window.{neighbours, Board};
 ghost use mathlib.Core.Logic.{_≢_};
-ghost use Prim.Native.Nat.{_*_, _<_, max};
+ghost use Prim.Native.Nat.{_*_, _≤_, _<_, max};
 ghost use lib.ListN.{length, replicate};
-ghost use Rattle.fitting.specs.Boards.{Accepted};
+ghost use Rattle.fitting.specs.Boards.{Accepted, mineTotal};
 ghost use Rattle.fitting.specs.Passes.{openCells, allOpen, judge};
 ghost use Rattle.marks.specs.CellLists.{listIn, Below};
 ghost use Rattle.marks.specs.Written.{written};
 ghost use Rattle.rounds.specs.Rounds.{roundsOf, judgeRounds};
 ghost use Rattle.rounds.specs.GivenRounds.{roundGiven};
-ghost use Rattle.enumeration.specs.ThreeRules.{threeRules};
+ghost use Rattle.verdict.specs.Rules.{rulesOf};
 ghost use Rattle.verdict.specs.Findings.{endOf};
 
 // How the passes end. The grade is that of the strongest rule that found a cell, whether all safe cells are open or not.
@@ -49,6 +50,28 @@ fn copy_cells(from: &[u8], to: &mut [u8])
     for i in 0..from.len() {
         to[i] = from[i];
     }
+}
+
+// The mine total of a board.
+fn count_mines(board: &[u8]) -> usize
+    requires { ⌜ length (now board) ≤ 1024 ⌝ }
+    ensures { λ r. ⌜ r ≡ mineTotal (now (board .entry)) ⌝ }
+{
+    let mut count = 0;
+    for c in 0..board.len() {
+        if board[c] == 255 {
+            count += 1;
+        }
+    }
+    count
+}
+
+// The same where it is shown; a plain board's is not counted.
+fn total_shown(shows_total: bool, board: &[u8]) -> usize
+    requires { ⌜ length (now board) ≤ 1024 ⌝ }
+    ensures { λ r. ⌜ («shows_total» ≡ true → r ≡ mineTotal (now (board .entry))) ⌝ }
+{
+    if shows_total { count_mines(board) } else { 0 }
 }
 
 // The greater of two grades.
@@ -125,8 +148,9 @@ fn make_pass(
 }
 
 // Opens the start in `first`, where all is closed; from there on at most as many passes as there are cells, in `position`. No cell has a round before; what a pass
-// opens has the pass's number.
+// opens has the pass's number. On a board that shows its mine total the passes know it.
 pub fn run_passes(
+    shows_total: bool,
     edgeless: bool,
     rows: usize,
     columns: usize,
@@ -140,15 +164,16 @@ pub fn run_passes(
     requires { ⌜ Accepted (neighbours edgeless rows columns) (now board) ⌝ }
     requires { ⌜ (start < length (now board)) × (cellOf (now board) start ≢ 255) × (now first ≡ replicate (length (now board)) 10) ⌝ }
     requires { ⌜ now «opened_in» ≡ roundsOf [] (length (now board)) ⌝ }
-    ensures { λ r. ⌜ r ≡ endOf (judge (neighbours edgeless rows columns) (now (board .entry)) (threeRules (neighbours edgeless rows columns)) start) ⌝ }
-    ensures { λ _. ⌜ now (position .exit) ≡ judge (neighbours edgeless rows columns) (now (board .entry)) (threeRules (neighbours edgeless rows columns)) start .position ⌝ }
-    ensures { λ _. ⌜ now («opened_in» .exit) ≡ judgeRounds (neighbours edgeless rows columns) (now (board .entry)) (threeRules (neighbours edgeless rows columns)) start ⌝ }
+    ensures { λ r. ⌜ r ≡ endOf (judge (neighbours edgeless rows columns) (now (board .entry)) (rulesOf «shows_total» (neighbours edgeless rows columns) (now (board .entry))) start) ⌝ }
+    ensures { λ _. ⌜ now (position .exit) ≡ judge (neighbours edgeless rows columns) (now (board .entry)) (rulesOf «shows_total» (neighbours edgeless rows columns) (now (board .entry))) start .position ⌝ }
+    ensures { λ _. ⌜ now («opened_in» .exit) ≡ judgeRounds (neighbours edgeless rows columns) (now (board .entry)) (rulesOf «shows_total» (neighbours edgeless rows columns) (now (board .entry))) start ⌝ }
 {
     open_start(edgeless, rows, columns, board, start, first, opened_in);
     copy_cells(first, position);
     let mut grade = 0;
     let mut rounds = 0;
     let cells = board.len();
+    let total = total_shown(shows_total, board);
     for k in 0..cells {
         if all_open(board, position) {
             return Ending {
@@ -157,7 +182,7 @@ pub fn run_passes(
                 rounds,
             };
         }
-        let found = find_cells(edgeless, rows, columns, position);
+        let found = find_in_pass(edgeless, rows, columns, position, shows_total, total);
         if found.safe.count + found.mines.count == 0 {
             return Ending {
                 yes: false,

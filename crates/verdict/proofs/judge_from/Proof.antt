@@ -31,7 +31,7 @@ returns c =
     let counted = c .before .before .before .before .before in
     let ran = counted .before .before .before .before .before .before .before .before .before in
     let s = ran .before .before .before .before .before .before .before .before .before in
-    passes-told _ (s .pre .0 .0) (s .args .start) (s .pre .1 .1 .0 .0) (ran .run-passes .ensures .0) (ran .run-passes .ensures .1 .0) (ran .run-passes .ensures .1 .1)
+    passes-told _ (s .pre .0 .0) (s .args .start) (s .pre .1 .1 .0 .0) _ (ran .run-passes .ensures .0) (ran .run-passes .ensures .1 .0) (ran .run-passes .ensures .1 .1)
     (counted .close-marks .ensures .0) (counted .close-marks .ensures .1) (c .board-grade .ensures)
 
 pub judge-from-spec : {M : Type 1} → statement M

@@ -3,13 +3,18 @@
 -- Underway, PassesOnBoard and FromStart. Assumes nothing.
 use mathlib.Core.Path.{_≡_, sym, _∙_}
 use mathlib.Core.List.{[]}
-use Prim.Native.Nat.{_-_}
+use Prim.Native.Nat.{_-_, _*_}
 use native.Mathlib.Omega.{arith}
 use borrow.Author.Needs.{needs}
 use lib.ListN.{length}
 use Rattle.grid.specs.Window.{neighbours}
+use borrow.Author.Tests.{eqb-true}
 use Rattle.fitting.specs.Boards.{own}
-use Rattle.enumeration.specs.ThreeRules.{threeRules}
+use Rattle.fitting.proofs.TotalDemand.{own-of-total}
+use Rattle.verdict.specs.Rules.{rulesOf}
+use Rattle.verdict.specs.Findings.{Finds, rulesAt}
+use Rattle.verdict.specs.declared.finding.Finding.{Finding}
+use Rattle.verdict.proofs.TotalFindings.{finds-own}
 use Rattle.rounds.proofs.GivenRounds.{rounds-on-board}
 use Rattle.verdict.proofs.FromStart.{few, first-own, first-board, first-ends}
 use Rattle.verdict.proofs.Underway.{underway-first, ends-open, ends-last}
@@ -18,11 +23,11 @@ use Rattle.verdict.proofs.passes.run_passes.Statement.{statement}
 use Rattle.verdict.proofs.passes.run_passes.Tie as tie
 
 abbrev Inv-loop : tie.InvT-loop
-Inv-loop edgeless rows columns board start first position₀ opened-in₀ grade₀ rounds₀ cells k₀ position opened-in grade rounds k =
-    OnBoard edgeless rows columns board first k position grade rounds opened-in
+Inv-loop shows-total edgeless rows columns board start first position₀ opened-in₀ grade₀ rounds₀ cells total k₀ position opened-in grade rounds k =
+    OnBoard shows-total edgeless rows columns board first k position grade rounds opened-in
 
 abbrev μ-loop : tie.MeasureT-loop
-μ-loop edgeless rows columns board start first position₀ opened-in₀ grade₀ rounds₀ cells k₀ position opened-in grade rounds k =
+μ-loop shows-total edgeless rows columns board start first position₀ opened-in₀ grade₀ rounds₀ cells total k₀ position opened-in grade rounds k =
     cells - k
 
 -- from where the start is opened back to the call, and to there from the loop
@@ -30,14 +35,23 @@ abbrev called : tie.After-open-start Inv-loop μ-loop → tie.Start Inv-loop μ-
 called c = c .before .before .before .before .before .before .before
 
 abbrev begun : tie.At-loop Inv-loop μ-loop → tie.After-open-start Inv-loop μ-loop
-begun c = c .before .before .before .before .before .before .before .before .before .before
+begun c = c .before .before .before .before .before .before .before .before .before .before .before
 
 -- the position keeps its length, and so does the slice of rounds
 as-long : (c : tie.At-loop Inv-loop μ-loop) → length (c .loop .position) ≡ length (called (begun c) .args .position .now)
-as-long c = let s = called (begun c) in position-board _ (s .pre .0 .0) (c .loop .inv) .whole ∙ sym (s .pre .0 .2 .whole)
+as-long c = let s = called (begun c) in position-board (s .args .shows-total) _ (s .pre .0 .0) (c .loop .inv) .whole ∙ sym (s .pre .0 .2 .whole)
 
 as-many : (c : tie.At-loop Inv-loop μ-loop) → length (c .loop .opened-in) ≡ length (called (begun c) .args .opened-in .now)
-as-many c = let s = called (begun c) in rounds-long _ (s .pre .0 .0) (c .loop .inv) ∙ sym (rounds-on-board (s .pre .0 .0) [] (s .pre .1 .1 .1))
+as-many c = let s = called (begun c) in rounds-long (s .args .shows-total) _ (s .pre .0 .0) (c .loop .inv) ∙ sym (rounds-on-board (s .pre .0 .0) [] (s .pre .1 .1 .1))
+
+-- what a pass found is what the board's rules find
+found-own : (l : tie.At-loop Inv-loop μ-loop) {r : Finding}
+    → (let s = called (begun l) in
+    Finds (s .args .rows * s .args .columns) (rulesAt (s .args .shows-total) (l .before .total-shown .result) (neighbours (s .args .edgeless) (s .args .rows) (s .args .columns)) (l .loop .position)) r
+    → Finds (s .args .rows * s .args .columns) (rulesOf (s .args .shows-total) (neighbours (s .args .edgeless) (s .args .rows) (s .args .columns)) (s .args .board .now) (l .loop .position)) r)
+found-own l found =
+    let s = called (begun l) in
+    finds-own _ _ (l .before .total-shown .result) (s .args .shows-total) (s .args .board .now) (l .before .total-shown .ensures) found
 
 open-start-requires : tie.Need-open-start-requires Inv-loop μ-loop
 open-start-requires c κs =
@@ -51,20 +65,23 @@ copy-cells-requires c κs =
     let on = s .pre .1 .1 .0 in
     omega (arith, first-board _ (s .pre .0 .0) (s .args .start) (on .0) (on .1) (s .pre .1 .0) (on .2) (opened .open-start .ensures .0) .whole, s .pre .0 .2 .whole)
 
+total-shown-requires : tie.Need-total-shown-requires Inv-loop μ-loop
+total-shown-requires c κs = few (called (c .before .before .before .before .before .before .before .before .before) .pre .0 .0)
+
 loop-holds : tie.Need-loop-holds Inv-loop μ-loop
 loop-holds c =
-    let copied = c .before .before in
+    let copied = c .before .before .before in
     let opened = copied .before .before .before .before .before .before .before in
     let s = called opened in
     let near = neighbours (s .args .edgeless) (s .args .rows) (s .args .columns) in
     let on = s .pre .1 .1 .0 in
     let fits = first-own _ (s .pre .0 .0) (s .args .start) (on .0) (on .1) (s .pre .1 .0) (on .2) (opened .open-start .ensures .0) in
-    rw (copied .copy-cells .ensures) (underway-first near (s .args .board .now) (threeRules near) (length (s .args .board .now)) _ _ fits (opened .open-start .ensures .1))
+    rw (copied .copy-cells .ensures) (underway-first near (s .args .board .now) (rulesOf (s .args .shows-total) near (s .args .board .now)) (length (s .args .board .now)) _ _ fits (opened .open-start .ensures .1))
 
 all-open-requires : tie.Need-all-open-requires Inv-loop μ-loop
 all-open-requires c κs =
     let l = c .before .before in
-    same-cells _ (called (begun l) .pre .0 .0) (l .loop .inv)
+    same-cells (called (begun l) .args .shows-total) _ (called (begun l) .pre .0 .0) (l .loop .inv)
 
 same-length : tie.Need-same-length Inv-loop μ-loop
 same-length c = search needs
@@ -82,14 +99,14 @@ returns c =
     let s = called opened in
     let near = neighbours (s .args .edgeless) (s .args .rows) (s .args .columns) in
     let on = s .pre .1 .1 .0 in
-    first-ends _ (s .pre .0 .0) (s .args .start) (on .0) (on .1) (s .pre .1 .0) (on .2) (opened .open-start .ensures .0)
-    (ends-open near (s .args .board .now) (threeRules near) (l .loop .inv) (sym (c .before .all-open .ensures) ∙ c .if1 .taken))
+    first-ends _ (s .pre .0 .0) (s .args .start) (on .0) (on .1) (s .pre .1 .0) (on .2) (opened .open-start .ensures .0) _
+    (ends-open near (s .args .board .now) (rulesOf (s .args .shows-total) near (s .args .board .now)) (l .loop .inv) (sym (c .before .all-open .ensures) ∙ c .if1 .taken))
 
-find-cells-requires : tie.Need-find-cells-requires Inv-loop μ-loop
-find-cells-requires c κs =
+find-in-pass-requires : tie.Need-find-in-pass-requires Inv-loop μ-loop
+find-in-pass-requires c κs =
     let l = c .before .before .before .before .before in
     let s = called (begun l) in
-    (position-board _ (s .pre .0 .0) (l .loop .inv), (own (s .args .board .now), l .loop .inv .own-fits))
+    (position-board (s .args .shows-total) _ (s .pre .0 .0) (l .loop .inv), (own (s .args .board .now), l .loop .inv .own-fits, λ h. eqb-true _ _ (own-of-total (s .args .board .now)) ∙ sym (l .before .total-shown .ensures h)))
 
 add-if2 : tie.Need-add-if2 Inv-loop μ-loop
 add-if2 c = search needs
@@ -112,8 +129,8 @@ returns-2 c =
     let s = called opened in
     let shut = sym (tested .all-open .ensures) ∙ asked .before .before .if1 .left in
     let on = s .pre .1 .1 .0 in
-    first-ends _ (s .pre .0 .0) (s .args .start) (on .0) (on .1) (s .pre .1 .0) (on .2) (opened .open-start .ensures .0)
-    (found-nothing _ (s .pre .0 .0) (l .loop .inv) (tested .before .before .loop-test .taken) shut (asked .find-cells .result) (asked .find-cells .ensures) (c .if2 .taken))
+    first-ends _ (s .pre .0 .0) (s .args .start) (on .0) (on .1) (s .pre .1 .0) (on .2) (opened .open-start .ensures .0) _
+    (found-nothing (s .args .shows-total) _ (s .pre .0 .0) (l .loop .inv) (tested .before .before .loop-test .taken) shut (asked .find-in-pass .result) (found-own l (asked .find-in-pass .ensures)) (c .if2 .taken))
 
 greater-requires : tie.Need-greater-requires Inv-loop μ-loop
 greater-requires c κs = search needs
@@ -122,22 +139,22 @@ add-rounds : tie.Need-add-rounds Inv-loop μ-loop
 add-rounds c =
     let tested = c .before .before .before .before .before .before in
     let l = tested .before .before .before in
-    omega (arith, few-rounds _ (called (begun l) .pre .0 .0) (l .loop .inv) (tested .before .before .loop-test .taken))
+    omega (arith, few-rounds (called (begun l) .args .shows-total) _ (called (begun l) .pre .0 .0) (l .loop .inv) (tested .before .before .loop-test .taken))
 
 cast-make-pass : tie.Need-cast-make-pass Inv-loop μ-loop
 cast-make-pass c =
     let tested = c .before .before .before .before .before .before .before .before in
     let l = tested .before .before .before in
-    omega (arith, few-rounds _ (called (begun l) .pre .0 .0) (l .loop .inv) (tested .before .before .loop-test .taken))
+    omega (arith, few-rounds (called (begun l) .args .shows-total) _ (called (begun l) .pre .0 .0) (l .loop .inv) (tested .before .before .loop-test .taken))
 
 make-pass-requires : tie.Need-make-pass-requires Inv-loop μ-loop
 make-pass-requires c κs =
     let asked = c .before .before .before .before .before in
     let l = asked .before .before .before .before .before .before in
     let s = called (begun l) in
-    let found = asked .find-cells .ensures in (
-      (s .pre .0 .0, position-board _ (s .pre .0 .0) (l .loop .inv)),
-      (s .pre .1 .0, ((found .safe-below, found .mines-below), rounds-long _ (s .pre .0 .0) (l .loop .inv))),
+    let found = found-own l (asked .find-in-pass .ensures) in (
+      (s .pre .0 .0, position-board (s .args .shows-total) _ (s .pre .0 .0) (l .loop .inv)),
+      (s .pre .1 .0, ((found .safe-below, found .mines-below), rounds-long (s .args .shows-total) _ (s .pre .0 .0) (l .loop .inv))),
     )
 
 add-k : tie.Need-add-k Inv-loop μ-loop
@@ -158,13 +175,13 @@ loop-again c =
     let l = tested .before .before .before in
     let s = called (begun l) in
     let shut = sym (tested .all-open .ensures) ∙ asked .before .before .if1 .left in
-    found-cells _ (s .pre .0 .0) (l .loop .inv) (tested .before .before .loop-test .taken) shut (asked .find-cells .result) (asked .find-cells .ensures)
+    found-cells (s .args .shows-total) _ (s .pre .0 .0) (l .loop .inv) (tested .before .before .loop-test .taken) shut (asked .find-in-pass .result) (found-own l (asked .find-in-pass .ensures))
     (s .pre .1 .0) (graded .before .if2 .left) _ (made .make-pass .ensures .0) _ (graded .greater .ensures) _ (made .make-pass .ensures .1)
 
 all-open-requires-2 : tie.Need-all-open-requires-2 Inv-loop μ-loop
 all-open-requires-2 c κs =
     let l = c .before .before in
-    same-cells _ (called (begun l) .pre .0 .0) (l .loop .inv)
+    same-cells (called (begun l) .args .shows-total) _ (called (begun l) .pre .0 .0) (l .loop .inv)
 
 same-length-7 : tie.Need-same-length-7 Inv-loop μ-loop
 same-length-7 c = search needs
@@ -182,8 +199,8 @@ returns-3 c =
     let s = called opened in
     let near = neighbours (s .args .edgeless) (s .args .rows) (s .args .columns) in
     let on = s .pre .1 .1 .0 in
-    first-ends _ (s .pre .0 .0) (s .args .start) (on .0) (on .1) (s .pre .1 .0) (on .2) (opened .open-start .ensures .0)
-    (ends-last near (s .args .board .now) (threeRules near) (l .loop .inv) (c .before .before .loop-test .left) _ (c .all-open2 .ensures))
+    first-ends _ (s .pre .0 .0) (s .args .start) (on .0) (on .1) (s .pre .1 .0) (on .2) (opened .open-start .ensures .0) _
+    (ends-last near (s .args .board .now) (rulesOf (s .args .shows-total) near (s .args .board .now)) (l .loop .inv) (c .before .before .loop-test .left) _ (c .all-open2 .ensures))
 
 pub run-passes-spec : {M : Type 1} → statement M
 run-passes-spec =
@@ -193,13 +210,14 @@ run-passes-spec =
     μ-loop
     open-start-requires
     copy-cells-requires
+    total-shown-requires
     loop-holds
     all-open-requires
     same-length
     same-length-2
     same-length-3
     returns
-    find-cells-requires
+    find-in-pass-requires
     add-if2
     same-length-4
     same-length-5

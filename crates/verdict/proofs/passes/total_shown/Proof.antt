@@ -1,0 +1,18 @@
+-- `passes::total_shown` meets its contract. Assumes nothing.
+use mathlib.Core.Path.{_≡_}
+use Rattle.lists.proofs.Tests.{clash}
+use borrow.Author.Needs.{needs}
+use Rattle.verdict.proofs.passes.total_shown.Statement.{statement}
+use Rattle.verdict.proofs.passes.total_shown.Tie as tie
+
+count-mines-requires : tie.Need-count-mines-requires
+count-mines-requires c κs = search needs
+
+returns : tie.Need-returns
+returns c = search needs
+
+returns-2 : tie.Need-returns-2
+returns-2 c = λ h. clash (c .before .before .args .shows-total) h (c .if1 .left)
+
+pub total-shown-spec : {M : Type 1} → statement M
+total-shown-spec = tie.close (tie.spec count-mines-requires returns returns-2)
