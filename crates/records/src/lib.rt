@@ -10,6 +10,8 @@ ghost use Rattle.records.specs.Records.{recordLength, boardMark, knownMa
 pub enum BoardMark {
     // 4D 42: a plain board.
     Plain,
+    // 4D 43: a board that shows its mine total.
+    Total,
     // No mark that is known.
     Unknown,
 }
@@ -45,6 +47,9 @@ pub fn board_mark(first: u8, second: u8) -> BoardMark
     if second == 66 {
         return BoardMark::Plain;
     }
+    if second == 67 {
+        return BoardMark::Total;
+    }
     BoardMark::Unknown
 }
 
@@ -54,6 +59,7 @@ fn is_known(mark: BoardMark) -> bool
 {
     match mark {
         BoardMark::Plain => true,
+        BoardMark::Total => true,
         BoardMark::Unknown => false,
     }
 }
