@@ -8,10 +8,10 @@ use lib.ListN.{replicate}
 use Rattle.grid.specs.Window.{flat}
 use Rattle.refusals.specs.declared.Refusal.the-variants.{Mark}
 use Rattle.records.specs.declared.BoardMark.{BoardMark}
-use Rattle.records.specs.declared.BoardMark.the-variants.{Plain, Unknown}
+use Rattle.records.specs.declared.BoardMark.the-variants.{Plain, Total, Unknown}
 use Rattle.verdict.specs.declared.Verdict.{Verdict}
 use Rattle.verdict.specs.declared.Verdict.the-variants.{Refused}
-use Rattle.verdict.specs.Verdict.{verdictNumber, verdictYes, verdictOpened, verdictGrade, verdictRounds, isSolvable}
+use Rattle.verdict.specs.Verdict.{verdictNumber, verdictYes, verdictOpened, verdictGrade, verdictRounds, VerdictSeen, verdictSeen, isSolvable, isSolvableTotal}
 use Rattle.text.specs.Text.{decimal}
 
 -- `yes ` and `no `
@@ -33,8 +33,13 @@ lineText number v = decimal number ++ (32 ∷ (verdictText v ++ (10 ∷ [])))
 unfoldable pub pictureSize : ℕ → ℕ → ℕ
 pictureSize rows columns = cond (leb rows 32 && leb columns 32) (rows * columns) 0
 
--- the verdict of a record's board, by its mark: a plain board is judged, lent zeros for the picture and for the rounds of its cells
+-- the verdict of a board by its mark, as its caller sees it: of a plain board the one that knows no mine total, of one that shows its total the one that goes by it
+abbrev pub verdictByMark : BoardMark → ℕ → ℕ → ℕ → ℕ → List ℕ → List ℕ → List ℕ → VerdictSeen
+verdictByMark Plain rows columns row column cells shown openedIn = isSolvable flat rows columns row column cells shown openedIn
+verdictByMark Total rows columns row column cells shown openedIn = isSolvableTotal rows columns row column cells shown openedIn
+verdictByMark Unknown rows columns row column cells shown openedIn = verdictSeen (Refused Mark) shown openedIn
+
+-- the verdict of a record's board, which is lent zeros for the picture and for the rounds of its cells
 unfoldable pub boardVerdict : BoardMark → ℕ → ℕ → ℕ → ℕ → List ℕ → Verdict
-boardVerdict Plain rows columns row column cells =
-    isSolvable flat rows columns row column cells (replicate (pictureSize rows columns) 0) (replicate (pictureSize rows columns) 0) .answer
-boardVerdict Unknown rows columns row column cells = Refused Mark
+boardVerdict mark rows columns row column cells =
+    verdictByMark mark rows columns row column cells (replicate (pictureSize rows columns) 0) (replicate (pictureSize rows columns) 0) .answer

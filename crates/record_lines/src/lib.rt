@@ -9,11 +9,13 @@ use text::put_bytes;
 use text::put_number;
 use verdict::Verdict;
 use verdict::is_solvable;
+use verdict::is_solvable_total;
 ghost use mathlib.Core.Path.{_≡_};
 ghost use Prim.Native.Nat.{_≤_};
 ghost use lib.ListN.{length, replicate};
 ghost use Rattle.text.specs.Text.{Written};
-ghost use Rattle.record_lines.specs.Answers.{verdictWord, verdictText, lineText, pictureSize, boardVerdict};
+ghost use Rattle.verdict.specs.Verdict.{verdictSeen};
+ghost use Rattle.record_lines.specs.Answers.{verdictWord, verdictText, lineText, pictureSize, verdictByMark, boardVerdict};
 
 // `yes ` or `no `, from a place on.
 fn put_word(out: &mut [u8], at: usize, yes: bool) -> usize
@@ -79,6 +81,44 @@ fn zeros() -> [u8; 1024]
     [0; 1024]
 }
 
+// The verdict of a board by its mark. Which mark is judged how, is decided here alone.
+pub fn verdict_by_mark(
+    mark: BoardMark,
+    rows: usize,
+    columns: usize,
+    row: usize,
+    column: usize,
+    cells: &[u8],
+    picture: &mut [u8],
+    opened_in: &mut [u16],
+) -> Verdict
+    ensures { λ r. ⌜ verdictSeen r (now (picture .exit)) (now («opened_in» .exit))
+        ≡ verdictByMark mark rows columns row column (now (cells .entry)) (now (picture .entry)) (now («opened_in» .entry)) ⌝ }
+{
+    match mark {
+        BoardMark::Plain => is_solvable(
+            FLAT,
+            rows,
+            columns,
+            row,
+            column,
+            cells,
+            picture,
+            opened_in,
+        ),
+        BoardMark::Total => is_solvable_total(
+            rows,
+            columns,
+            row,
+            column,
+            cells,
+            picture,
+            opened_in,
+        ),
+        BoardMark::Unknown => Verdict::Refused(Refusal::Mark),
+    }
+}
+
 // The verdict of a record's board, by its mark. Picture and rounds are lent for the time of the call.
 pub fn board_verdict(
     mark: BoardMark,
@@ -93,17 +133,14 @@ pub fn board_verdict(
     let size = picture_size(rows, columns);
     let mut picture = zeros();
     let mut opened_in = [0u16; 1024];
-    match mark {
-        BoardMark::Plain => is_solvable(
-            FLAT,
-            rows,
-            columns,
-            row,
-            column,
-            cells,
-            &mut picture[..size],
-            &mut opened_in[..size],
-        ),
-        BoardMark::Unknown => Verdict::Refused(Refusal::Mark),
-    }
+    verdict_by_mark(
+        mark,
+        rows,
+        columns,
+        row,
+        column,
+        cells,
+        &mut picture[..size],
+        &mut opened_in[..size],
+    )
 }
