@@ -66,11 +66,10 @@ unfolding tableReturned
 table-returned {rows = rows} counts call which e =
     by-form (λ (v : TableSeen). tableReturned v counts) call (ap (λ (a : TableAnswer). tableSeen a rows) which) e
 
-pub verdict-returned : {asked : VerdictSeen} {answer form : Verdict} {shown openedIn : List ℕ} (counts : List ℕ) {w : Returned} → verdictSeen answer shown openedIn ≡ asked
-    → answer ≡ form → w ≡ returned (verdictNumber form) (shown ∷ openedIn ∷ []) (laid (verdictValues form) counts) → w ≡ verdictReturned asked counts
+pub verdict-returned : {asked : VerdictSeen} {answer : Verdict} {shown openedIn : List ℕ} (counts : List ℕ) {after : List ℕ} {n : ℕ} → verdictSeen answer shown openedIn ≡ asked
+    → n ≡ verdictNumber answer → after ≡ laid (verdictValues answer) counts → returned n (shown ∷ openedIn ∷ []) after ≡ verdictReturned asked counts
 unfolding verdictReturned
-verdict-returned {shown = shown} {openedIn = openedIn} counts call which e =
-    by-form (λ (v : VerdictSeen). verdictReturned v counts) call (ap (λ (a : Verdict). verdictSeen a shown openedIn) which) e
+verdict-returned counts call number is = values-returned number is ∙ ap (λ (v : VerdictSeen). verdictReturned v counts) call
 
 -- a rule's call: the counts of its answer, and the three slices
 pub deduction-returned : {w : Seen} {r : DeductionAnswer} {p s m : List ℕ} (counts : List ℕ) {after : List ℕ} {n : ℕ} → seen r p s m ≡ w

@@ -14,6 +14,7 @@ use tables::TableAnswer;
 use tables::cal_all_solution;
 use verdict::Verdict;
 use verdict::is_solvable;
+use verdict::is_solvable_total;
 ghost use mathlib.Core.Path.{_≡_};
 ghost use mathlib.Core.Bool.{Bool};
 ghost use mathlib.Core.List.{List, [], _∷_};
@@ -24,8 +25,9 @@ ghost use Rattle.lists.specs.Lists.{bit as bitOf};
 ghost use Rattle.grid.specs.Window.{flat, neighbours};
 ghost use Rattle.refusals.specs.declared.Tested.the-variants.{Accepted};
 ghost use Rattle.refusals.specs.Tests.{boardTested, deductionTested, startCell};
-ghost use Rattle.fitting.specs.Layouts.{Fits};
-ghost use Rattle.fitting.specs.Demand.{Demand3};
+ghost use Rattle.fitting.specs.Layouts.{Fits, ofTotal};
+ghost use Rattle.fitting.specs.Boards.{mineTotal};
+ghost use Rattle.fitting.specs.Demand.{Demand3, Demand3Among};
 ghost use Rattle.frontier.specs.Answer.{refreshMatrixs};
 ghost use Rattle.deductions.specs.Answers.{deduction, solveDirect, solveMinus, solveEnumerate};
 ghost use Rattle.deductions.specs.Calls.{SoundCall, CompleteCall};
@@ -34,8 +36,8 @@ ghost use Rattle.deductions.specs.ByRule.{ruleOn, CompleteBy, RefusesBy};
 ghost use Rattle.tables.specs.Tables.{calAllSolution};
 ghost use Rattle.tables.specs.Listed.{TableCall};
 ghost use Rattle.patterns.specs.Answer.{unsolvableStructure};
-ghost use Rattle.verdict.specs.Verdict.{isSolvable};
-ghost use Rattle.export.specs.Returned.{returned, answered, frontierReturned, deductionReturned, tableReturned, patternReturned, verdictReturned};
+ghost use Rattle.verdict.specs.Verdict.{verdictNumber, verdictValues, isSolvable, isSolvableTotal};
+ghost use Rattle.export.specs.Returned.{returned, laid, answered, frontierReturned, deductionReturned, tableReturned, patternReturned, verdictReturned};
 
 // A count at its place in the lent slice, where there is room for it.
 fn put_count(counts: &mut [u64], at: usize, value: usize)
@@ -88,6 +90,22 @@ fn deduce_counted(
     let answer = deduce(rule, FLAT, rows, columns, position, safe, mines);
     let tested = answer.tested;
     put_deduction(tested, answer.safe, answer.mines, counts)
+}
+
+// A verdict's answer: the refusal's number, or 0 and its four counts.
+fn put_verdict(verdict: Verdict, counts: &mut [u64]) -> u8
+    ensures { λ r. ⌜ (r ≡ verdictNumber verdict) × (now (counts .exit) ≡ laid (verdictValues verdict) (now (counts .entry))) ⌝ }
+{
+    match verdict {
+        Verdict::Refused(refusal) => refusal_number(refusal),
+        Verdict::Judged(yes, opened, grade, rounds) => {
+            put_count(counts, 0, bit(yes));
+            put_count(counts, 1, opened);
+            put_count(counts, 2, grade);
+            put_count(counts, 3, rounds);
+            0
+        }
+    }
 }
 
 // refresh_matrixs. Counts: blocks, inside cells, known mines.
@@ -266,14 +284,37 @@ pub extern "C" fn lihvompa_verdict(
         picture,
         opened_in,
     );
-    match verdict {
-        Verdict::Refused(refusal) => refusal_number(refusal),
-        Verdict::Judged(yes, opened, grade, rounds) => {
-            put_count(counts, 0, bit(yes));
-            put_count(counts, 1, opened);
-            put_count(counts, 2, grade);
-            put_count(counts, 3, rounds);
-            0
-        }
-    }
+    put_verdict(verdict, counts)
+}
+
+// The verdict of a board that shows its mine total. No parameter gives the total: it is that of the board's own mines. Parameters and counts are those of
+// lihvompa_verdict, and demand 3 is that of a solver who goes by the layouts with as many mines as the board.
+#[no_mangle]
+pub extern "C" fn lihvompa_verdict_total(
+    rows: usize,
+    columns: usize,
+    start_row: usize,
+    start_column: usize,
+    cells: &[u8],
+    picture: &mut [u8],
+    opened_in: &mut [u16],
+    counts: &mut [u64],
+) -> u8
+    ensures { λ r. ⌜ returned r (now (picture .exit) ∷ now («opened_in» .exit) ∷ []) (now (counts .exit))
+        ≡ verdictReturned (isSolvableTotal rows columns «start_row» «start_column» (now (cells .entry)) (now (picture .entry)) (now («opened_in» .entry))) (now (counts .entry)) ⌝ }
+    ensures { λ r. ⌜ (boardTested flat rows columns «start_row» «start_column» (now (cells .entry)) (length (now (picture .entry)) ∷ length (now («opened_in» .entry)) ∷ []) ≡ Accepted
+        → 1 < length (now (counts .entry))
+        → Demand3Among (neighbours flat rows columns) (ofTotal (mineTotal (now (cells .entry)))) (now (cells .entry))
+        (startCell columns «start_row» «start_column») (eqb (getD (now (counts .exit)) 0 0) 1) (getD (now (counts .exit)) 1 0) (now (picture .exit))) ⌝ }
+{
+    let verdict = is_solvable_total(
+        rows,
+        columns,
+        start_row,
+        start_column,
+        cells,
+        picture,
+        opened_in,
+    );
+    put_verdict(verdict, counts)
 }
