@@ -1,4 +1,4 @@
-// The answers of the calls on a board to a line of numbers: unsolvable_structure here, is_solvable in a file of its own.
+// The answers of the calls on a board to a line of numbers: unsolvable_structure here, the verdict in a file of its own.
 pub mod verdicts;
 
 use lines::read_line;

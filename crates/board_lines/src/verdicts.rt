@@ -1,13 +1,13 @@
-// The answer of is_solvable to a line with a start, as text: `yes 2 0 0 picture 1 10 rounds 0 65535`, or `refused 5`. The text of the verdict is the one that answers
-// a record.
-use grid::window::FLAT;
+// The answer of the verdict to a line with a start, as text: `yes 2 0 0 picture 1 10 rounds 0 65535`, or `refused 5`. By the mark that is asked for it is judged as a
+// record, and the text of the verdict is the one that answers a record.
 use lines::read_start_line;
 use record_lines::put_verdict;
+use record_lines::verdict_by_mark;
+use records::BoardMark;
 use show::put_cells;
 use show::put_rounds;
 use text::put_bytes;
 use verdict::Verdict;
-use verdict::is_solvable;
 ghost use mathlib.Core.List.{_++_};
 ghost use Prim.Native.Nat.{_≤_};
 ghost use lib.ListN.{length};
@@ -45,9 +45,9 @@ fn put_judged(out: &mut [u8], verdict: Verdict, picture: &[u8], opened_in: &[u16
     put_slices(out, at, verdict, picture, opened_in)
 }
 
-// The answer of is_solvable to a line. The slices that are lent are as long as the line has cells.
-pub fn verdict_line(line: &[u8], out: &mut [u8]) -> usize
-    ensures { λ r. ⌜ Written (now (out .entry)) 0 (verdictLine (now (line .entry))) (now (out .exit)) r ⌝ }
+// The answer of the verdict to a line, which a mark makes a plain board or one that shows its mine total. The slices that are lent are as long as the line has cells.
+pub fn verdict_line(mark: BoardMark, line: &[u8], out: &mut [u8]) -> usize
+    ensures { λ r. ⌜ Written (now (out .entry)) 0 (verdictLine mark (now (line .entry))) (now (out .exit)) r ⌝ }
 {
     let read = read_start_line(line);
     let board = read.board;
@@ -58,8 +58,8 @@ pub fn verdict_line(line: &[u8], out: &mut [u8]) -> usize
     let len = board.len;
     let mut picture = [0u8; 1025];
     let mut opened_in = [0u16; 1025];
-    let verdict = is_solvable(
-        FLAT,
+    let verdict = verdict_by_mark(
+        mark,
         board.rows,
         board.columns,
         read.start_row,

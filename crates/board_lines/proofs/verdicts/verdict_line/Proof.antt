@@ -23,21 +23,21 @@ fits : (c : tie.After-read-start-line) → (board c .len ≤ length (board c .ce
 fits c = start-fits _ (c .read-start-line .result) (c .read-start-line .ensures)
 
 -- where the call has answered: the line that was read, and what is left in the two slices
-abbrev read : tie.After-is-solvable → tie.After-read-start-line
+abbrev read : tie.After-verdict-by-mark → tie.After-read-start-line
 read c = c .before .before .before .before .before .before .before .before
 
-abbrev shown : tie.After-is-solvable → List ℕ
-shown c = c .is-solvable .last .1 .1 .1 .1 .1 .1 .0
+abbrev shown : tie.After-verdict-by-mark → List ℕ
+shown c = c .verdict-by-mark .last .1 .1 .1 .1 .1 .1 .0
 
-abbrev opened-in : tie.After-is-solvable → List ℕ
-opened-in c = c .is-solvable .last .1 .1 .1 .1 .1 .1 .1 .0
+abbrev opened-in : tie.After-verdict-by-mark → List ℕ
+opened-in c = c .verdict-by-mark .last .1 .1 .1 .1 .1 .1 .1 .0
 
 -- both stand in the place of the zeros that were lent
-picture-in-place : (c : tie.After-is-solvable) → InPlace (board (read c) .len) (shown c)
-picture-in-place c = in-place _ (fits (read c) .1) (shown c) (c .is-solvable .kept .1 .1 .1 .1 .1 .1 .0)
+picture-in-place : (c : tie.After-verdict-by-mark) → InPlace (board (read c) .len) (shown c)
+picture-in-place c = in-place _ (fits (read c) .1) (shown c) (c .verdict-by-mark .kept .1 .1 .1 .1 .1 .1 .0)
 
-rounds-in-place : (c : tie.After-is-solvable) → InPlace (board (read c) .len) (opened-in c)
-rounds-in-place c = in-place _ (fits (read c) .1) (opened-in c) (c .is-solvable .kept .1 .1 .1 .1 .1 .1 .1 .0)
+rounds-in-place : (c : tie.After-verdict-by-mark) → InPlace (board (read c) .len) (opened-in c)
+rounds-in-place c = in-place _ (fits (read c) .1) (opened-in c) (c .verdict-by-mark .kept .1 .1 .1 .1 .1 .1 .1 .0)
 
 read-start-line-requires : tie.Need-read-start-line-requires
 read-start-line-requires c κs = search needs
@@ -54,29 +54,29 @@ same-length c = search needs
 returns : tie.Need-returns
 returns c =
     let line = c .before .before .before .before .before .before .before .before in
-    verdict-unreadable _ (line .read-start-line .result) (line .read-start-line .ensures) (not-true (board line .readable) (c .before .before .before .before .before .if1 .taken))
+    verdict-unreadable _ _ (line .read-start-line .result) (line .read-start-line .ensures) (not-true (board line .readable) (c .before .before .before .before .before .if1 .taken))
     (c .before .before .put-bytes .ensures)
 
 array-share-prefix-cells : tie.Need-array-share-prefix-cells
 array-share-prefix-cells c = fits (c .before .before .before .before) .0
 
-slice-aggregate-is-solvable : tie.Need-slice-aggregate-is-solvable
-slice-aggregate-is-solvable c = simp length-take (omega (arith, fits (c .before .before .before .before .before) .0))
+slice-aggregate-verdict-by-mark : tie.Need-slice-aggregate-verdict-by-mark
+slice-aggregate-verdict-by-mark c = simp length-take (omega (arith, fits (c .before .before .before .before .before) .0))
 
 array-borrow-prefix-picture : tie.Need-array-borrow-prefix-picture
 array-borrow-prefix-picture c = omega (arith, fits (c .before .before .before .before .before) .1)
 
-slice-aggregate-is-solvable-2 : tie.Need-slice-aggregate-is-solvable-2
-slice-aggregate-is-solvable-2 c = zeros-long _ (fits (c .before .before .before .before .before .before) .1)
+slice-aggregate-verdict-by-mark-2 : tie.Need-slice-aggregate-verdict-by-mark-2
+slice-aggregate-verdict-by-mark-2 c = zeros-long _ (fits (c .before .before .before .before .before .before) .1)
 
 array-borrow-prefix-opened-in : tie.Need-array-borrow-prefix-opened-in
 array-borrow-prefix-opened-in c = omega (arith, fits (c .before .before .before .before .before .before) .1)
 
-slice-aggregate-is-solvable-3 : tie.Need-slice-aggregate-is-solvable-3
-slice-aggregate-is-solvable-3 c = zeros-long _ (fits (c .before .before .before .before .before .before .before) .1)
+slice-aggregate-verdict-by-mark-3 : tie.Need-slice-aggregate-verdict-by-mark-3
+slice-aggregate-verdict-by-mark-3 c = zeros-long _ (fits (c .before .before .before .before .before .before .before) .1)
 
-is-solvable-requires : tie.Need-is-solvable-requires
-is-solvable-requires c κs = search needs
+verdict-by-mark-requires : tie.Need-verdict-by-mark-requires
+verdict-by-mark-requires c κs = search needs
 
 array-share-prefix-picture : tie.Need-array-share-prefix-picture
 array-share-prefix-picture c = picture-in-place (c .before .before .before) .within
@@ -101,8 +101,8 @@ returns-2 c =
     let judged = c .before .before in
     let call = judged .before .before .before .before .before .before in
     let line = read call in
-    verdict-line-written _ (line .read-start-line .result) (line .read-start-line .ensures) (not-false (board line .readable) (call .before .before .before .before .before .if1 .left))
-    (verdictSeen (call .is-solvable .result) (shown call) (opened-in call)) (call .is-solvable .ensures .0 ∙ lent-zeros (line .read-start-line .result) (fits line .1))
+    verdict-line-written _ _ (line .read-start-line .result) (line .read-start-line .ensures) (not-false (board line .readable) (call .before .before .before .before .before .if1 .left))
+    (verdictSeen (call .verdict-by-mark .result) (shown call) (opened-in call)) (call .verdict-by-mark .ensures ∙ lent-zeros (line .before .before .before .args .mark) (line .read-start-line .result) (fits line .1))
     (rw (picture-in-place call .front, rounds-in-place call .front) at (judged .put-judged .ensures))
 
 pub verdict-line-spec : {M : Type 1} → statement M
@@ -115,12 +115,12 @@ verdict-line-spec =
     same-length
     returns
     array-share-prefix-cells
-    slice-aggregate-is-solvable
+    slice-aggregate-verdict-by-mark
     array-borrow-prefix-picture
-    slice-aggregate-is-solvable-2
+    slice-aggregate-verdict-by-mark-2
     array-borrow-prefix-opened-in
-    slice-aggregate-is-solvable-3
-    is-solvable-requires
+    slice-aggregate-verdict-by-mark-3
+    verdict-by-mark-requires
     array-share-prefix-picture
     slice-aggregate-put-judged
     array-share-prefix-opened-in
