@@ -1,8 +1,10 @@
-// What each call answers to a line of numbers, as a line of text in a lent buffer: the text of the oracle, so that a comparison is a `diff`.
+// What each call answers to a line of numbers, as a line of text in a lent buffer: the text of the oracle, so that a comparison is a `diff`. The verdict is asked by
+// two names, of a plain board and of one that shows its mine total.
 use board_lines::pattern_line;
 use board_lines::verdicts::verdict_line;
 use deductions::Rule;
 use frontier_lines::frontier_line;
+use records::BoardMark;
 use rule_lines::deduction_line;
 use table_lines::table_line;
 ghost use Rattle.text.specs.Text.{Written};
@@ -16,6 +18,7 @@ pub enum Call {
     Pattern,
     Enumerate,
     Verdict,
+    Total,
     Table,
 }
 
@@ -29,7 +32,8 @@ pub fn call_line(call: Call, line: &[u8], out: &mut [u8]) -> usize
         Call::Minus => deduction_line(Rule::Minus, line, out),
         Call::Pattern => pattern_line(line, out),
         Call::Enumerate => deduction_line(Rule::Enumerate, line, out),
-        Call::Verdict => verdict_line(line, out),
+        Call::Verdict => verdict_line(BoardMark::Plain, line, out),
+        Call::Total => verdict_line(BoardMark::Total, line, out),
         Call::Table => table_line(line, out),
     }
 }

@@ -43,6 +43,12 @@ verdict-line-requires c κs = search needs
 enum-told-7 : tie.Need-enum-told-7
 enum-told-7 c = search needs
 
+verdict-line-requires-2 : tie.Need-verdict-line-requires-2
+verdict-line-requires-2 c κs = search needs
+
+enum-told-8 : tie.Need-enum-told-8
+enum-told-8 c = search needs
+
 table-line-requires : tie.Need-table-line-requires
 table-line-requires c κs = search needs
 
@@ -93,7 +99,14 @@ same-length-7 c = search needs
 
 returns-7 : tie.Need-returns-7
 unfolding callLine
-returns-7 c = rw (c .before .before .before .before .enum-told7 .given .1) (c .before .before .table-line .ensures)
+returns-7 c = rw (c .before .before .before .before .enum-told7 .given .1) (c .before .before .verdict-line2 .ensures)
+
+same-length-8 : tie.Need-same-length-8
+same-length-8 c = search needs
+
+returns-8 : tie.Need-returns-8
+unfolding callLine
+returns-8 c = rw (c .before .before .before .before .enum-told8 .given .1) (c .before .before .table-line .ensures)
 
 pub call-line-spec : {M : Type 1} → statement M
 call-line-spec =
@@ -112,6 +125,8 @@ call-line-spec =
     enum-told-6
     verdict-line-requires
     enum-told-7
+    verdict-line-requires-2
+    enum-told-8
     table-line-requires
     same-length
     returns
@@ -126,4 +141,6 @@ call-line-spec =
     same-length-6
     returns-6
     same-length-7
-    returns-7)
+    returns-7
+    same-length-8
+    returns-8)
