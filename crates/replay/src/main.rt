@@ -1,6 +1,6 @@
-// replay: runs the stored answers of the Rust in data/, one file for each call, in which a line that is asked and the line that the Rust answered
-// follow each other. It names each case whose answer differs, and says how many agree. Last it runs eleven answers that are wrong on purpose, and says how many
-// of them it took for right.
+// replay: runs the stored answers in data/, one file for each call, in which a line that is asked and the line that was answered follow each other. They are the
+// Rust's; those of total, a call that the Rust has not, are of another judge, written from the definition alone. It names each case whose answer differs, and says how
+// many agree. Last it runs thirteen answers that are wrong on purpose, and says how many of them it took for right.
 use answers::Call;
 use answers::call_line;
 use check::same;
@@ -229,7 +229,7 @@ fn run_file(call: Call, name: &[u8], before: State) -> State {
     after
 }
 
-// Runs the Rust's answers of a call and says how many agree.
+// Runs the stored answers of a call and says how many agree.
 fn run_call(call: Call, name: &[u8]) {
     io::write_all(1, name);
     io::write_all(1, b": ");
@@ -246,6 +246,7 @@ fn run_wrong() {
     s = run_file(Call::Table, b"wrong_table", s);
     s = run_file(Call::Pattern, b"wrong_pattern", s);
     s = run_file(Call::Verdict, b"wrong_verdict", s);
+    s = run_file(Call::Total, b"wrong_total", s);
     io::write_all(1, b"control: ");
     print_counts(s.agree, s.differ);
 }
@@ -258,5 +259,6 @@ fn main() {
     run_call(Call::Table, b"table");
     run_call(Call::Pattern, b"pattern");
     run_call(Call::Verdict, b"verdict");
+    run_call(Call::Total, b"total");
     run_wrong();
 }
