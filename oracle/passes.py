@@ -1,5 +1,7 @@
 """The verdict as the words of SPECIFICATION 9 have it, as a second program beside ours: it keeps every position that the passes come to, and reads the round of a
 cell off them, the first that has it open (9.6). The three rules are asked of the Rust, a position at a time; the loop around them is neither the Rust's nor ours."""
+import functools
+
 import asking
 import positions
 
@@ -25,7 +27,7 @@ class Run:
     def solved(self):
         return all(cell == 255 or shown <= 8 for cell, shown in zip(self.cells, self.positions[-1]))
 
-    def make_pass(self, number, answer):
+    def make_pass(self, grade, answer):
         """A pass with what a rule answered, `safe 0,2 mine 1 ..`. Did the rule find a cell?"""
         if answer in ('panic', asking.SILENT, asking.FAILED):
             self.failed = answer
@@ -40,7 +42,7 @@ class Run:
         for c in safe:
             positions.flooded(self.rows, self.columns, self.cells, after, c)
         self.positions.append(after)
-        self.strongest = max(self.strongest, number)
+        self.strongest = max(self.strongest, grade)
         return True
 
     def line(self):
@@ -54,15 +56,21 @@ class Run:
         return ' '.join(['yes' if yes else 'no', *map(str, counts), 'picture', *map(str, picture), 'rounds', *map(str, rounds)])
 
 
-def verdicts(boards, ask):
-    """The verdict's line of each board with a safe start, as its four numbers and its cells. `ask` has the Rust's answers to lines of a call."""
+def by_rust(ask, rule, runs):
+    """What a rule of the Rust answers at the last position of each run."""
+    return ask(rule, [positions.line(run.rows, run.columns, run.positions[-1]) for run in runs])
+
+
+def verdicts(boards, ask, more_rules=()):
+    """The verdict's line of each board with a safe start, as its four numbers and its cells. `ask` has the Rust's answers to lines of a call; `more_rules` are tried behind
+    the three, each a grade and what has its answers for runs."""
+    rules = [(grade, functools.partial(by_rust, ask, rule)) for grade, rule in enumerate(RULES, 1)] + list(more_rules)
     runs = [Run(head, cells) for head, cells in boards]
     going = runs
     while going:
         passed, asked = [], [run for run in going if not run.solved()]
-        for number, rule in enumerate(RULES, 1):
-            answers = ask(rule, [positions.line(run.rows, run.columns, run.positions[-1]) for run in asked])
-            found = {run for run, answer in zip(asked, answers) if run.make_pass(number, answer)}
+        for grade, answers in rules:
+            found = {run for run, answer in zip(asked, answers(asked)) if run.make_pass(grade, answer)}
             passed += found
             asked = [run for run in asked if run not in found and not run.failed]
         going = passed
