@@ -91,6 +91,7 @@ fn judge(input: &[u8], pictures: bool, out: &mut dyn Write) {
     while at < input.len() {
         number += 1;
         let rest = &input[at..];
+        // 4D 43 too is unknown here: the Rust has no verdict with the mine total shown (see total.py)
         if rest.len() >= 2 && rest[..2] != [0x4D, 0x42] {
             return put_line(&format!("{} refused 10", number), out);
         }

@@ -1,11 +1,13 @@
 """Random boards with a start for comparisons, from a seed, as records (SPECIFICATION 5.1) and as lines of numbers: sizes from 1 x 1 to 32 x 32, all densities,
 starts on safe cells and zeros, and two kinds that are refused, on mines and the retired start 255,255; boards with faults, one or several; every board of a size;
-damaged streams of records; and streams of stored records."""
+records of both marks, the second of which shows the mine total; damaged streams of records; and streams of stored records."""
 import itertools
 
 import positions
 
 OPEN = (255, 255)  # the retired start: it meant the first 0 in reading order, and is off every board
+PLAIN, TOTAL = b'MB', b'MC'  # the marks that the judge knows
+FEW_CELLS = 18
 
 
 def size(r, least):
@@ -62,11 +64,19 @@ def start_on_board(r, least):
             return kind, head, cells
 
 
-def safe_start(r, least):
+def safe_start(r, least=1):
     """A board with a start on a safe cell, mostly a zero."""
     while True:
         kind, head, cells = start_on_board(r, least)
         if kind != 'start on a mine':
+            return kind, head, cells
+
+
+def few_cells(r, drawn=judged):
+    """A board with a start, so small that all layouts of its total can be made (oracle/total.py)."""
+    while True:
+        kind, head, cells = drawn(r)
+        if len(cells) <= FEW_CELLS:
             return kind, head, cells
 
 
@@ -127,9 +137,9 @@ IN_RECORDS = [retired_start, wrong_number, wrong_start, wrong_cell, wrong_size, 
 IN_LINES = [retired_start, wrong_number, wrong_start, start_past_a_byte, wrong_cell, cell_past_a_byte, wrong_length, wrong_size]
 
 
-def faulty(r, faults):
+def faulty(r, faults, drawn=judged):
     """A board with one fault or several: its kind, four numbers and cells."""
-    _, head, cells = judged(r)
+    _, head, cells = drawn(r)
     chosen = r.sample(faults, r.choice([1, 1, 1, 2, 3]))
     for fault in sorted(chosen, key=faults.index):
         head, cells = fault(r, head, cells)
@@ -138,8 +148,15 @@ def faulty(r, faults):
 
 # ---- as bytes and as text ----
 
-def record(head, cells):
-    return b'MB' + bytes(head) + bytes(cells)
+def record(head, cells, mark=PLAIN):
+    return mark + bytes(head) + bytes(cells)
+
+
+def of_either_mark(r, with_faults):
+    """A board for a record, with faults in such a part of them: its kind, four numbers, cells and mark. One in four shows its total, and has few cells."""
+    mark, drawn = (TOTAL, few_cells) if r.random() < 0.25 else (PLAIN, judged)
+    kind, head, cells = faulty(r, IN_RECORDS, drawn) if r.random() < with_faults else drawn(r)
+    return kind + ', total shown' if mark == TOTAL else kind, head, cells, mark
 
 
 def line(head, cells):
@@ -157,9 +174,9 @@ def every(rows, columns):
 
 # ---- damaged streams ----
 
-def cuts(start=(0, 0)):
+def cuts(start=(0, 0), mark=PLAIN):
     """A record cut at each of its bytes, alone and behind a whole one; the empty input and one lone byte are among them."""
-    whole = record([3, 4, *start], [0, 1, 2, 2, 1, 2, 255, 255, 1, 255, 4, 255])
+    whole = record([3, 4, *start], [0, 1, 2, 2, 1, 2, 255, 255, 1, 255, 4, 255], mark)
     for end in range(len(whole) + 1):
         yield 'cut alone', whole[:end]
         yield 'cut behind another', whole + whole[:end]
@@ -173,18 +190,18 @@ def damaged_end(r, last):
     elif kind == 'cut in the cells':
         end = last[:r.randint(6, len(last) - 1)]
     elif kind == 'unknown mark':
-        end = r.choice([b'MC', b'NB', b'BM', b'mb', b'\0\0', bytes([r.randrange(77), r.randrange(256)])]) + r.choice([b'', last[2:], last[2:] + last])
+        end = r.choice([b'MD', b'NB', b'BM', b'mb', b'\0\0', bytes([r.randrange(77), r.randrange(256)])]) + r.choice([b'', last[2:], last[2:] + last])
     elif kind == 'lone byte':
         end = bytes([r.choice([77, 66, 0, 255, r.randrange(256)])])
     else:
-        end = b'MB' + bytes(r.choice([[33, 33], [255, 255], [1, 33], [200, 32]])) + last[4:10]
+        end = last[:2] + bytes(r.choice([[33, 33], [255, 255], [1, 33], [200, 32]])) + last[4:10]
     return kind, end
 
 
 def damaged(r):
-    """Some records with a damaged end, and its kind."""
-    whole = [record(*faulty(r, IN_RECORDS)[1:]) if r.random() < 0.2 else record(*judged(r)[1:]) for _ in range(r.randint(0, 3))]
-    kind, end = damaged_end(r, record(*judged(r)[1:]))
+    """Some records of both marks with a damaged end, and its kind."""
+    whole = [record(*of_either_mark(r, 0.2)[1:]) for _ in range(r.randint(0, 3))]
+    kind, end = damaged_end(r, record(*of_either_mark(r, 0)[1:]))
     return kind, b''.join(whole) + end
 
 
@@ -218,8 +235,8 @@ def stored_records(r, most):
 
 
 def unknown_between(r):
-    """Records, then one with an unknown mark, then records again; the marks that the judge is to learn are among the unknown ones."""
-    mark = r.choice([b'MC', b'MT', b'NB', b'BM', b'mb', b'\0\0', b'M\0', bytes([77, r.choice([65, 67, 255])]), bytes([r.randrange(77), 66])])
+    """Records, then one with a mark that migrate does not know, then records again; a mark that the judge knows and one that it is to learn are among them."""
+    mark = r.choice([TOTAL, b'MT', b'NB', b'BM', b'mb', b'\0\0', b'M\0', bytes([77, r.choice([65, 68, 255])]), bytes([r.randrange(77), 66])])
     return stored_records(r, 3) + mark + stored_record(r)[2:] + stored_record(r) + stored_records(r, 2)
 
 

@@ -9,9 +9,9 @@ import math
 import asking
 import passes
 import positions
+import records
 
-MARK, PLAIN_MARK = b'MC', b'MB'
-HEAD = 6
+HEAD = 6  # bytes of a record before its cells
 GRADE = 5
 MOST_LAYOUTS = 50000  # so 18 closed cells are few enough, whatever their mines
 
@@ -108,13 +108,13 @@ def with_plain_marks(stream):
     plain, lines, at = bytearray(stream), {}, 0
     for number in itertools.count(1):
         mark, size = stream[at:at + 2], stream[at + 2:at + 4]
-        if mark not in (MARK, PLAIN_MARK):
+        if mark not in (records.PLAIN, records.TOTAL):
             return bytes(plain), lines
-        plain[at:at + 2] = PLAIN_MARK
+        plain[at:at + 2] = records.PLAIN
         end = at + HEAD + math.prod(size)
         if len(size) < 2 or end > len(stream):
             return bytes(plain), lines
-        if mark == MARK:
+        if mark == records.TOTAL:
             lines[number] = ' '.join(map(str, stream[at + 2:end]))
         at = end
 
