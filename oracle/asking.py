@@ -61,3 +61,8 @@ def answers(command, questions, seconds, read=lambda found: found):
     if len(found) > len(questions):
         raise Stopped('%s has printed %d answers to %d inputs' % (' '.join(command), len(found), len(questions)))
     return found
+
+
+def line_answers(command, lines, seconds):
+    """A program's answer to each line."""
+    return answers(command, [line.encode() + b'\n' for line in lines], seconds)

@@ -119,10 +119,13 @@ def with_plain_marks(stream):
         at = end
 
 
-def printed(lines, shown, ask):
-    """What is printed to a stream, of what the Rust prints to it with plain marks, and the lines of the others: these have another verdict, and the same refusals."""
-    lines = list(lines)
-    judged = [number for number in shown if ' refused ' not in lines[number]]
-    for number, answer in zip(judged, answers([shown[number] for number in judged], ask)):
+def judged(oracle, stream, seconds):
+    """The lines to be printed to a stream of both marks, and how the Rust's program ended: they are its lines, to which every mark is 4D 42, but for the verdicts
+    on boards that show their total."""
+    plain, shown = with_plain_marks(stream)
+    lines, end = asking.lines([oracle, 'judge'], plain, seconds)
+    accepted = [number for number in shown if not end and ' refused ' not in lines[number]]
+    found = answers([shown[number] for number in accepted], lambda call, asked: asking.line_answers([oracle, call], asked, seconds))
+    for number, answer in zip(accepted, found):
         lines[number] = '%d %s' % (number, answer.partition(' picture ')[0])
-    return lines
+    return lines, end
