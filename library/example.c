@@ -37,15 +37,18 @@ static void print_rounds(const uint16_t *opened_in, size_t rows, size_t columns)
     }
 }
 
-static void judge(size_t rows, size_t columns, size_t row, size_t column, const uint8_t *cells, const uint64_t *right, const uint8_t *right_picture,
-                  const uint16_t *right_rounds)
+/* The call of a verdict, without the mine total or with it. */
+typedef uint8_t verdict_call(size_t, size_t, size_t, size_t, const uint8_t *, size_t, uint8_t *, size_t, uint16_t *, size_t, uint64_t *, size_t);
+
+static void judge(verdict_call *verdict, size_t rows, size_t columns, size_t row, size_t column, const uint8_t *cells, const uint64_t *right,
+                  const uint8_t *right_picture, const uint16_t *right_rounds)
 {
     uint8_t picture[1024];
     uint16_t opened_in[1024];
     uint64_t counts[4];
     size_t n = rows * columns;
     memset(opened_in, 7, sizeof opened_in); /* so that an entry that is not written would show */
-    uint8_t refusal = lihvompa_verdict(rows, columns, row, column, cells, n, picture, n, opened_in, n, counts, 4);
+    uint8_t refusal = verdict(rows, columns, row, column, cells, n, picture, n, opened_in, n, counts, 4);
     expect(refusal == LIHVOMPA_ACCEPTED, "the board is accepted");
     if (refusal != LIHVOMPA_ACCEPTED)
         return;
@@ -92,18 +95,21 @@ struct lent {
     uint64_t counts[4];
 };
 
-/* Lends slices filled with 7, that for the rounds of the length told, and sees that the call is refused with this number and writes nothing. */
+/* Lends slices filled with 7, that for the rounds of the length told, and sees that both verdicts are refused with this number and write nothing. */
 static void be_refused_with(uint8_t number, size_t rows, size_t columns, size_t row, size_t column, const uint8_t *cells, size_t opened_in_length,
                             const char *what)
 {
+    verdict_call *const verdicts[2] = {lihvompa_verdict, lihvompa_verdict_total};
     struct lent lent, before;
     size_t n = rows * columns;
     memset(&lent, 7, sizeof lent);
     memcpy(&before, &lent, sizeof lent);
-    uint8_t refusal = lihvompa_verdict(rows, columns, row, column, cells, n, lent.picture, n, lent.opened_in, opened_in_length, lent.counts, 4);
-    printf("%s: refusal %d\n", what, refusal);
-    expect(refusal == number, what);
-    expect(memcmp(&lent, &before, sizeof lent) == 0, "a refusal writes nothing");
+    for (int with_total = 0; with_total < 2; with_total++) {
+        uint8_t refusal = verdicts[with_total](rows, columns, row, column, cells, n, lent.picture, n, lent.opened_in, opened_in_length, lent.counts, 4);
+        printf("%s%s: refusal %d\n", what, with_total ? ", with the total" : "", refusal);
+        expect(refusal == number, what);
+        expect(memcmp(&lent, &before, sizeof lent) == 0, "a refusal writes nothing");
+    }
 }
 
 static void be_refused(void)
@@ -126,17 +132,20 @@ int main(void)
     const uint16_t no = LIHVOMPA_NO_ROUND;
     const uint8_t first[3] = {255, 1, 0}, first_picture[3] = {10, 1, 0};
     const uint8_t second[6] = {1, 255, 1, 1, 1, 1}, second_picture[6] = {10, 10, 10, 1, 10, 10};
-    const uint8_t third[3] = {1, 255, 1}, third_picture[3] = {1, 10, 10};
+    const uint8_t third[3] = {1, 255, 1}, third_picture[3] = {1, 10, 10}, third_picture_with_total[3] = {1, 10, 1};
     const uint8_t fourth[9] = {0, 1, 1, 2, 3, 255, 255, 255, 2}, fourth_picture[9] = {0, 1, 1, 2, 3, 10, 10, 10, 2};
     const uint64_t first_counts[4] = {1, 2, 0, 0}, second_counts[4] = {0, 1, 4, 0}, third_counts[4] = {0, 1, 4, 1}, fourth_counts[4] = {1, 6, 2, 3};
+    const uint64_t third_counts_with_total[4] = {1, 2, 5, 2};
     const uint16_t first_rounds[3] = {no, 0, 0}, second_rounds[6] = {no, no, no, 0, no, no}, third_rounds[3] = {0, no, no};
-    const uint16_t fourth_rounds[9] = {0, 0, 3, 0, 0, no, no, no, 2};
-    judge(1, 3, 0, 2, first, first_counts, first_picture, first_rounds);
-    judge(2, 3, 1, 0, second, second_counts, second_picture, second_rounds);
+    const uint16_t third_rounds_with_total[3] = {0, no, 2}, fourth_rounds[9] = {0, 0, 3, 0, 0, no, no, no, 2};
+    judge(lihvompa_verdict, 1, 3, 0, 2, first, first_counts, first_picture, first_rounds);
+    judge(lihvompa_verdict, 2, 3, 1, 0, second, second_counts, second_picture, second_rounds);
     /* the pass finds a mine alone, and nothing is opened behind it */
-    judge(1, 3, 0, 0, third, third_counts, third_picture, third_rounds);
+    judge(lihvompa_verdict, 1, 3, 0, 0, third, third_counts, third_picture, third_rounds);
+    /* with the mine total shown that was the only mine, and the second pass opens the last cell */
+    judge(lihvompa_verdict_total, 1, 3, 0, 0, third, third_counts_with_total, third_picture_with_total, third_rounds_with_total);
     /* the first pass finds mines alone and counts: no cell has round 1 */
-    judge(3, 3, 0, 0, fourth, fourth_counts, fourth_picture, fourth_rounds);
+    judge(lihvompa_verdict, 3, 3, 0, 0, fourth, fourth_counts, fourth_picture, fourth_rounds);
     subtract();
     list_table();
     be_refused();

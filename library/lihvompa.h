@@ -53,6 +53,13 @@ enum lihvompa_round {
 uint8_t lihvompa_verdict(size_t rows, size_t columns, size_t start_row, size_t start_column, const uint8_t *cells, size_t cells_length,
                          uint8_t *picture, size_t picture_length, uint16_t *opened_in, size_t opened_in_length, uint64_t *counts, size_t counts_length);
 
+/* The verdict on a board that shows its mine total, which is that of its own mines and is not lent. A layout must then hold exactly that total, cells that touch no
+ * open one included. Where enumeration finds nothing, a fourth rule finds each closed cell, on the frontier or off it, that is the same in every layout of that
+ * total that fits, mines included; a pass that it fills is a round. Grade: of a yes in which this rule found a cell 5. All else is as in lihvompa_verdict. */
+uint8_t lihvompa_verdict_total(size_t rows, size_t columns, size_t start_row, size_t start_column, const uint8_t *cells, size_t cells_length,
+                               uint8_t *picture, size_t picture_length, uint16_t *opened_in, size_t opened_in_length, uint64_t *counts,
+                               size_t counts_length);
+
 /* Whether a board has a pattern of mines that leaves a guess. Counts: 1 where one is found, else 0. Only mines are looked at. Refusals 1 to 3. */
 uint8_t lihvompa_pattern(size_t rows, size_t columns, const uint8_t *cells, size_t cells_length, uint64_t *counts, size_t counts_length);
 

@@ -1,5 +1,6 @@
 /* Measures how much stack the calls need: each runs in a thread on a stack that was filled with one byte, and what is no longer that byte was used. The
- * inputs are the largest: positions of one block with many groups, whose one solution lies as deep as there are groups, and boards of many densities.
+ * inputs are the largest: positions of one block with many groups, whose one solution lies as deep as there are groups, and boards of many densities, judged
+ * without their mine total and with it.
  *
  *     cc -O2 -pthread -o target/library/stack library/stack.c target/staticlib/libexport.a && target/library/stack */
 #define _GNU_SOURCE
@@ -30,6 +31,7 @@ static void *run(void *unused)
     case 4: number = lihvompa_table(SIDE, SIDE, cells, CELLS, 0, lent, CELLS, counts, 4); break;
     case 5: number = lihvompa_pattern(SIDE, SIDE, cells, CELLS, counts, 4); break;
     case 6: number = lihvompa_verdict(SIDE, SIDE, start / SIDE, start % SIDE, cells, CELLS, lent, CELLS, opened_in, CELLS, counts, 4); break;
+    case 7: number = lihvompa_verdict_total(SIDE, SIDE, start / SIDE, start % SIDE, cells, CELLS, lent, CELLS, opened_in, CELLS, counts, 4); break;
     default: break;
     }
     return unused;
@@ -114,27 +116,33 @@ static void board(unsigned percent, unsigned *seed)
     start = first_start();
 }
 
+/* Judges the board by a call, and prints it where more stack was used than for any before. */
+static void verdict(unsigned percent, const char *name, int which, size_t *most)
+{
+    size_t none = used(-1), bytes = used(which) - none;
+    if (number != LIHVOMPA_ACCEPTED) {
+        fprintf(stderr, "a board of %u%% mines is refused with %d: that measures the tests alone\n", percent, number);
+        exit(1);
+    }
+    if (bytes > *most) {
+        *most = bytes;
+        printf("board of %u%% mines, %s, number %d, opened %llu, grade %llu: %zu bytes\n", percent, name, number, (unsigned long long)counts[1],
+               (unsigned long long)counts[2], bytes);
+    }
+}
+
 int main(void)
 {
     unsigned seed = 1;
-    size_t most = 0;
+    size_t most = 0, most_with_total = 0;
     positions("one of four closed", one_of_four);
     positions("one of two closed", chequered);
     positions("two of three closed", two_of_three);
     for (unsigned percent = 5; percent <= 22; percent++)
         for (int k = 0; k < 20; k++) {
-            size_t none = used(-1), bytes;
             board(percent, &seed);
-            bytes = used(6) - none;
-            if (number != LIHVOMPA_ACCEPTED) {
-                fprintf(stderr, "a board of %u%% mines is refused with %d: that measures the tests alone\n", percent, number);
-                return 1;
-            }
-            if (bytes > most) {
-                most = bytes;
-                printf("board of %u%% mines, verdict, number %d, opened %llu, grade %llu: %zu bytes\n", percent, number, (unsigned long long)counts[1],
-                       (unsigned long long)counts[2], bytes);
-            }
+            verdict(percent, "verdict", 6, &most);
+            verdict(percent, "verdict with the total", 7, &most_with_total);
         }
     report("board", "pattern", 5);
     return 0;

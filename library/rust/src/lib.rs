@@ -66,7 +66,7 @@ pub struct Verdict {
     pub yes: bool,
     /// How many cells are open in the end.
     pub opened: usize,
-    /// Of a yes the strongest rule that found a cell: 1 direct, 2 subtraction, 3 enumeration, 0 none. Of a no 4.
+    /// Of a yes the strongest rule that found a cell: 1 direct, 2 subtraction, 3 enumeration, 5 the mine total (of [`verdict_total`] alone), 0 none. Of a no 4.
     pub grade: usize,
     /// How many passes found a cell.
     pub rounds: usize,
@@ -120,6 +120,7 @@ impl Table {
 /// The exported functions. A slice is a pointer, which is never null, and a length.
 mod exported {
     pub type Rule = unsafe extern "C" fn(usize, usize, *mut u8, usize, *mut u16, usize, *mut u16, usize, *mut u64, usize) -> u8;
+    pub type Verdict = unsafe extern "C" fn(usize, usize, usize, usize, *const u8, usize, *mut u8, usize, *mut u16, usize, *mut u64, usize) -> u8;
 
     extern "C" {
         pub fn lihvompa_frontier(rows: usize, columns: usize, position: *const u8, length: usize, counts: *mut u64, counted: usize) -> u8;
@@ -144,6 +145,10 @@ mod exported {
             rows: usize, columns: usize, start_row: usize, start_column: usize, cells: *const u8, length: usize, picture: *mut u8, picture_length: usize,
             opened_in: *mut u16, opened_in_length: usize, counts: *mut u64, counted: usize,
         ) -> u8;
+        pub fn lihvompa_verdict_total(
+            rows: usize, columns: usize, start_row: usize, start_column: usize, cells: *const u8, length: usize, picture: *mut u8, picture_length: usize,
+            opened_in: *mut u16, opened_in_length: usize, counts: *mut u64, counted: usize,
+        ) -> u8;
     }
 }
 
@@ -164,20 +169,39 @@ fn answered<const N: usize>(number: u8, counts: [u64; N]) -> Result<[usize; N], 
     })
 }
 
-/// The verdict on a board from a start. A start on a mine is refused, as the last test. A start of 255, 255, which once meant the first 0 in reading order, is off
-/// every board.
-pub fn verdict(rows: usize, columns: usize, start: (usize, usize), cells: &[u8]) -> Result<Verdict, Refusal> {
+fn judged(call: exported::Verdict, rows: usize, columns: usize, start: (usize, usize), cells: &[u8]) -> Result<Verdict, Refusal> {
     let (mut picture, mut opened_in) = (vec![10; cells.len()], vec![0; cells.len()]);
     let mut counts = [0; 4];
     // each pointer is of a live slice of the length beside it, and no two slices overlap; so in every call below
     let number = unsafe {
-        exported::lihvompa_verdict(
+        call(
             rows, columns, start.0, start.1, cells.as_ptr(), cells.len(), picture.as_mut_ptr(), picture.len(), opened_in.as_mut_ptr(), opened_in.len(),
             counts.as_mut_ptr(), counts.len(),
         )
     };
     let [yes, opened, grade, rounds] = answered(number, counts)?;
     Ok(Verdict { yes: yes == 1, opened, grade, rounds, picture, opened_in })
+}
+
+/// The verdict on a board from a start. A start on a mine is refused, as the last test. A start of 255, 255, which once meant the first 0 in reading order, is off
+/// every board.
+pub fn verdict(rows: usize, columns: usize, start: (usize, usize), cells: &[u8]) -> Result<Verdict, Refusal> {
+    judged(exported::lihvompa_verdict, rows, columns, start, cells)
+}
+
+/// The verdict on a board that shows its mine total, which is that of its own mines. Where enumeration finds nothing, each closed cell is found, on the frontier or
+/// off it, that is the same in every layout of that total that fits, mines included. Nothing that [`verdict`] opens is lost. It is refused as that is.
+///
+/// ```
+/// // the mine beside the start is the only one, so the cell behind it is safe
+/// let board = [1, 255, 1];
+/// assert!(!lihvompa::verdict(1, 3, (0, 0), &board).unwrap().yes);
+/// let verdict = lihvompa::verdict_total(1, 3, (0, 0), &board).unwrap();
+/// assert!(verdict.yes);
+/// assert_eq!((verdict.opened, verdict.grade, verdict.rounds), (2, 5, 2));
+/// ```
+pub fn verdict_total(rows: usize, columns: usize, start: (usize, usize), cells: &[u8]) -> Result<Verdict, Refusal> {
+    judged(exported::lihvompa_verdict_total, rows, columns, start, cells)
 }
 
 /// Whether a board has a pattern of mines that leaves a guess. Only mines are looked at.

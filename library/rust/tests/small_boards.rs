@@ -1,5 +1,5 @@
 //! The small boards of SPECIFICATION 12, the record example (5.4) and the refusals (3.1), and boards worked out by hand, through the safe functions.
-use lihvompa::{direct, enumerate, frontier, minus, pattern, table, verdict, Deduction, Frontier, Refusal, NO_ROUND};
+use lihvompa::{direct, enumerate, frontier, minus, pattern, table, verdict, verdict_total, Deduction, Frontier, Refusal, Verdict, NO_ROUND};
 
 fn found(safe: &[u16], mines: &[u16], position: &[u8]) -> Result<Deduction, Refusal> {
     Ok(Deduction { safe: safe.to_vec(), mines: mines.to_vec(), position: position.to_vec() })
@@ -7,7 +7,15 @@ fn found(safe: &[u16], mines: &[u16], position: &[u8]) -> Result<Deduction, Refu
 
 /// Yes or no, opened cells, grade, rounds; the picture and the cells' rounds belong to them.
 fn judged(rows: usize, columns: usize, start: (usize, usize), cells: &[u8]) -> (bool, usize, usize, usize) {
-    let v = verdict(rows, columns, start, cells).unwrap();
+    told(verdict(rows, columns, start, cells).unwrap(), columns, start, cells)
+}
+
+/// The same where the board shows its mine total.
+fn judged_with_total(rows: usize, columns: usize, start: (usize, usize), cells: &[u8]) -> (bool, usize, usize, usize) {
+    told(verdict_total(rows, columns, start, cells).unwrap(), columns, start, cells)
+}
+
+fn told(v: Verdict, columns: usize, start: (usize, usize), cells: &[u8]) -> (bool, usize, usize, usize) {
     assert_eq!(v.picture.len(), cells.len());
     assert_eq!(v.picture.iter().filter(|&&cell| cell <= 8).count(), v.opened);
     assert_eq!(v.opened_in.len(), cells.len());
@@ -138,6 +146,75 @@ fn each_cell_has_the_round_in_which_it_was_opened() {
 }
 
 #[test]
+fn the_mine_total_finds_cells() {
+    const NO: u16 = NO_ROUND;
+    // the mine beside the start is the only one
+    assert_eq!(judged_with_total(1, 3, (0, 0), &[1, 255, 1]), (true, 2, 5, 2));
+    assert_eq!(verdict_total(1, 3, (0, 0), &[1, 255, 1]).unwrap().opened_in, [0, NO, 2]);
+    // the one mine touches the start, so the cells farther away are safe
+    assert_eq!(judged_with_total(1, 5, (0, 1), &[0, 1, 255, 1, 0]), (true, 4, 5, 2));
+    assert_eq!(verdict_total(1, 5, (0, 1), &[0, 1, 255, 1, 0]).unwrap().opened_in, [2, 0, NO, 1, 1]);
+    // the same, and their zeros open the rest
+    let corner = [0, 0, 0, 0, 1, 1, 0, 1, 255];
+    assert_eq!(judged_with_total(3, 3, (2, 1), &corner), (true, 8, 5, 1));
+    assert_eq!(verdict_total(3, 3, (2, 1), &corner).unwrap().opened_in, [1, 1, 1, 1, 1, 1, 1, 0, NO]);
+    // both mines touch the start
+    assert_eq!(judged_with_total(1, 5, (0, 2), &[1, 255, 2, 255, 1]), (true, 3, 5, 2));
+    assert_eq!(verdict_total(1, 5, (0, 2), &[1, 255, 2, 255, 1]).unwrap().opened_in, [2, NO, 0, NO, 2]);
+    // without the total each of them is no, with the start alone open
+    for (rows, columns, start, cells) in [
+        (1, 3, (0, 0), &[1, 255, 1][..]),
+        (1, 5, (0, 1), &[0, 1, 255, 1, 0]),
+        (3, 3, (2, 1), &corner),
+        (1, 5, (0, 2), &[1, 255, 2, 255, 1]),
+    ] {
+        let v = verdict(rows, columns, start, cells).unwrap();
+        assert_eq!((v.yes, v.opened, v.grade), (false, 1, 4));
+    }
+}
+
+#[test]
+fn the_mine_total_does_not_save_every_board() {
+    const NO: u16 = NO_ROUND;
+    // it opens the far column and what follows from that, and then the mine is one of two cells
+    let board = [1, 255, 1, 1, 1, 1];
+    assert_eq!(judged(2, 3, (1, 0), &board), (false, 1, 4, 0));
+    assert_eq!(judged_with_total(2, 3, (1, 0), &board), (false, 4, 4, 2));
+    let v = verdict_total(2, 3, (1, 0), &board).unwrap();
+    assert_eq!(v.picture, [1, 10, 1, 1, 10, 1]);
+    assert_eq!(v.opened_in, [2, NO, 1, 0, NO, 1]);
+    // the one mine is on either side of the start
+    assert_eq!(judged_with_total(1, 3, (0, 1), &[255, 1, 0]), (false, 1, 4, 0));
+    // one of the two mines touches the start, so the last cell is the other: a mine alone is found, which is a round, and nothing is opened
+    assert_eq!(judged_with_total(1, 4, (0, 1), &[0, 1, 255, 255]), (false, 1, 4, 1));
+}
+
+#[test]
+fn the_mine_total_changes_nothing_where_three_rules_are_enough() {
+    for (rows, columns, start, cells) in [
+        (1, 1, (0, 0), &[0][..]),
+        (1, 3, (0, 2), &[255, 1, 0]),
+        (3, 3, (2, 0), &[1, 255, 1, 1, 1, 1, 0, 0, 0]),
+        (3, 3, (0, 0), &[0, 1, 1, 2, 3, 255, 255, 255, 2]),
+        (3, 4, (0, 0), &[0, 1, 2, 2, 1, 2, 255, 255, 1, 255, 4, 255]),
+    ] {
+        assert!(verdict(rows, columns, start, cells).unwrap().yes);
+        assert_eq!(verdict_total(rows, columns, start, cells), verdict(rows, columns, start, cells));
+    }
+}
+
+#[test]
+fn a_board_that_shows_its_total_is_refused_as_any_other() {
+    assert_eq!(verdict_total(33, 1, (0, 0), &[0; 33]), Err(Refusal::Size));
+    assert_eq!(verdict_total(1, 3, (0, 0), &[255, 1]), Err(Refusal::Length));
+    assert_eq!(verdict_total(1, 3, (0, 0), &[255, 1, 10]), Err(Refusal::Cell));
+    assert_eq!(verdict_total(1, 3, (0, 3), &[255, 1, 0]), Err(Refusal::Start));
+    assert_eq!(verdict_total(1, 3, (255, 255), &[255, 1, 0]), Err(Refusal::Start));
+    assert_eq!(verdict_total(1, 3, (0, 0), &[255, 2, 0]), Err(Refusal::Number));
+    assert_eq!(verdict_total(1, 3, (0, 0), &[255, 1, 0]), Err(Refusal::StartMine));
+}
+
+#[test]
 fn a_start_on_a_mine_is_refused() {
     assert_eq!(verdict(1, 1, (0, 0), &[255]), Err(Refusal::StartMine));
     assert_eq!(verdict(1, 3, (0, 0), &[255, 1, 0]), Err(Refusal::StartMine));
@@ -211,6 +288,7 @@ fn a_stack_of_one_mebibyte_is_enough() {
         let t = table(32, 32, &position, 0, closed).unwrap();
         assert_eq!((t.solutions, t.groups, t.row(0)), (1, closed, &vec![0; closed][..]));
         assert_eq!(judged(32, 32, (0, 0), &[0; 1024]), (true, 1024, 0, 0));
+        assert_eq!(judged_with_total(32, 32, (0, 0), &[0; 1024]), (true, 1024, 0, 0));
     };
     std::thread::Builder::new().stack_size(1 << 20).spawn(calls).unwrap().join().unwrap();
 }
