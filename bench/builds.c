@@ -3,7 +3,7 @@
  * quickest round of each, then the least and the greatest ratio of a round. Run by bench/builds.
  *
  * With --before-without-rounds the first build is one from before the verdict had its slice for the rounds of cells: its verdict is called without the slice, and
- * the rounds of the second are not compared. */
+ * the rounds of the second are not compared. The verdict with the mine total shown is passed over where one of the builds does not have it yet. */
 #define _POSIX_C_SOURCE 200809L
 #include <dlfcn.h>
 #include <stdint.h>
@@ -12,7 +12,7 @@
 #include <string.h>
 #include <time.h>
 
-enum { CELLS = 1024, TABLE = 16384, TURN = 50, ROUNDS = 7, CALLS = 7, VERDICT_WITHOUT_ROUNDS = CALLS };
+enum { CELLS = 1024, TABLE = 16384, TURN = 50, ROUNDS = 7, CALLS = 8, VERDICT_TOTAL = 7, VERDICT_WITHOUT_ROUNDS = CALLS };
 
 typedef uint8_t Verdict(size_t, size_t, size_t, size_t, const uint8_t *, size_t, uint8_t *, size_t, uint16_t *, size_t, uint64_t *, size_t);
 typedef uint8_t VerdictWithoutRounds(size_t, size_t, size_t, size_t, const uint8_t *, size_t, uint8_t *, size_t, uint64_t *, size_t);
@@ -20,7 +20,7 @@ typedef uint8_t Look(size_t, size_t, const uint8_t *, size_t, uint64_t *, size_t
 typedef uint8_t Rule(size_t, size_t, uint8_t *, size_t, uint16_t *, size_t, uint16_t *, size_t, uint64_t *, size_t);
 typedef uint8_t Table(size_t, size_t, const uint8_t *, size_t, size_t, uint8_t *, size_t, uint64_t *, size_t);
 
-static const char *const NAMES[CALLS] = {"verdict", "pattern", "frontier", "direct", "minus", "enumerate", "table"};
+static const char *const NAMES[CALLS] = {"verdict", "pattern", "frontier", "direct", "minus", "enumerate", "table", "verdict_total"};
 
 static int before_without_rounds = 0;
 
@@ -45,6 +45,11 @@ static void *call_of(void *build, int call) {
   return found;
 }
 
+/* Has a build the verdict with the mine total shown? */
+static int has_total(void *build) {
+  return dlsym(build, "lihvompa_verdict_total") != NULL;
+}
+
 /* The number of the call as a build has it. */
 static int shape_of(int side, int call) {
   return call == 0 && side == 0 && before_without_rounds ? VERDICT_WITHOUT_ROUNDS : call;
@@ -55,7 +60,8 @@ static void ask(void *function, int shape, const Input *in, Answer *out) {
   memset(out->counts, 0, sizeof out->counts);
   memcpy(out->bytes, in->position, n);
   switch (shape) {
-    case 0: out->number = ((Verdict *)function)(in->rows, in->columns, row, column, in->cells, n, out->bytes, n, out->opened_in, n, out->counts, 4); break;
+    case 0:
+    case VERDICT_TOTAL: out->number = ((Verdict *)function)(in->rows, in->columns, row, column, in->cells, n, out->bytes, n, out->opened_in, n, out->counts, 4); break;
     case VERDICT_WITHOUT_ROUNDS:
       out->number = ((VerdictWithoutRounds *)function)(in->rows, in->columns, row, column, in->cells, n, out->bytes, n, out->counts, 4);
       break;
@@ -103,6 +109,10 @@ static void draw(Input *in, size_t rows, size_t columns, size_t mines, void *ver
 
 static int measure(void *builds[2], int call, const Input *inputs, int count) {
   static Answer answers[2];
+  if (call == VERDICT_TOTAL && !(has_total(builds[0]) && has_total(builds[1]))) {
+    printf("  %-13s not in both builds\n", NAMES[call]);
+    return 0;
+  }
   double quickest[2] = {1e9, 1e9}, least = 1e9, greatest = 0;
   for (int round = 0; round < ROUNDS; round++) {
     double taken[2] = {0, 0};
@@ -126,7 +136,7 @@ static int measure(void *builds[2], int call, const Input *inputs, int count) {
     if (before_without_rounds) memset(answers[1].opened_in, 0, sizeof answers[1].opened_in);
     differ += memcmp(&answers[0], &answers[1], sizeof answers[0]) != 0;
   }
-  printf("  %-10s %9.2f %9.2f   %.3f   %.3f to %.3f   %d differ\n", NAMES[call], quickest[0] * 1e6 / count, quickest[1] * 1e6 / count,
+  printf("  %-13s %9.2f %9.2f   %.3f   %.3f to %.3f   %d differ\n", NAMES[call], quickest[0] * 1e6 / count, quickest[1] * 1e6 / count,
          quickest[0] / quickest[1], least, greatest, differ);
   return differ;
 }

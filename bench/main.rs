@@ -1,5 +1,6 @@
 // Times our calls beside the Rust's functions, on the same boards and positions in one process; the two sides take turns, so that whatever else the machine
-// does meets both, and every answer is compared on the way. Boards are random, from a seed; positions come from games that the Rust's rules play on them.
+// does meets both, and every answer is compared on the way. Boards are random, from a seed; positions come from games that the Rust's rules play on them. The
+// verdict with the mine total shown, which the Rust has not, is timed beside ours without it.
 //
 //   bench [HARD]        HARD is a file of records to judge too, one by one
 include!("../oracle/shim.rs");
@@ -86,20 +87,25 @@ fn timed<T>(time: &mut Time, call: impl FnOnce() -> T) -> T {
     answer
 }
 
-/// Runs both on each of `count` inputs, a hundred at a time, and sees that their answers are equal, which is not timed.
+/// Runs both on each of `count` inputs, a hundred at a time, and looks at the two answers to each, which is not timed.
+fn in_turns<R, O>(count: usize, one: impl Fn(usize) -> R, other: impl Fn(usize) -> O, mut look: impl FnMut(R, O)) -> (Time, Time) {
+    let (mut one_time, mut other_time) = (Time::default(), Time::default());
+    for first in (0..count).step_by(100) {
+        let turn = first..min(first + 100, count);
+        let from_one: Vec<R> = turn.clone().map(|k| timed(&mut one_time, || one(k))).collect();
+        let from_other: Vec<O> = turn.map(|k| timed(&mut other_time, || other(k))).collect();
+        from_one.into_iter().zip(from_other).for_each(|(r, o)| look(r, o));
+    }
+    (one_time, other_time)
+}
+
+/// Runs both in turns, and sees that their answers are equal.
 fn turns<R, O>(name: &str, count: usize, rust: impl Fn(usize) -> R, ours: impl Fn(usize) -> O) -> (Time, Time)
 where
     R: PartialEq<O> + std::fmt::Debug,
     O: std::fmt::Debug,
 {
-    let (mut rust_time, mut our_time) = (Time::default(), Time::default());
-    for first in (0..count).step_by(100) {
-        let turn = first..min(first + 100, count);
-        let from_rust: Vec<R> = turn.clone().map(|k| timed(&mut rust_time, || rust(k))).collect();
-        let from_ours: Vec<O> = turn.map(|k| timed(&mut our_time, || ours(k))).collect();
-        assert_eq!(from_rust, from_ours, "the answers of {} differ", name);
-    }
-    (rust_time, our_time)
+    in_turns(count, rust, ours, |r, o| assert_eq!(r, o, "the answers of {} differ", name))
 }
 
 /// Three rounds of a call, each printed with the mean time of both sides and their ratio.
@@ -201,7 +207,12 @@ fn rust_verdict(b: &Board) -> Verdict {
 }
 
 fn our_verdict(b: &Board) -> ours::Verdict {
-    ours::verdict(b.rows, b.columns, b.start, &b.bytes)
+    ours::verdict(ours::lihvompa_verdict, b.rows, b.columns, b.start, &b.bytes)
+}
+
+/// Our verdict with the mine total shown.
+fn our_verdict_with_total(b: &Board) -> ours::Verdict {
+    ours::verdict(ours::lihvompa_verdict_total, b.rows, b.columns, b.start, &b.bytes)
 }
 
 fn print_verdicts(count: usize, solvable: usize, rust: Time, unchanged: Time, ours: Time) {
@@ -219,6 +230,29 @@ fn verdicts(random: &mut Random, rows: usize, columns: usize, mines: usize, coun
         let (rust, ours) = turns("verdict", count, |k| rust_verdict(&all[k]), |k| our_verdict(&all[k]));
         let solvable = all.iter().filter(|b| timed(&mut unchanged, || is_solvable(&b.grid, b.start.0, b.start.1))).count();
         print_verdicts(count, solvable, rust, unchanged, ours);
+    }
+}
+
+/// Sees that nothing is lost when the total is shown: a yes stays, and so does every open cell with its number.
+fn nothing_lost(plain: &ours::Verdict, shown: &ours::Verdict) {
+    assert!(plain.counts[0] <= shown.counts[0] && plain.counts[1] <= shown.counts[1], "with the total shown less is opened");
+    assert!(plain.picture.iter().zip(&shown.picture).all(|(&p, &s)| p == 10 || p == s), "with the total shown a cell is lost");
+}
+
+/// Verdicts with the mine total shown beside verdicts without, ours both, on the same boards.
+fn totals(random: &mut Random, rows: usize, columns: usize, mines: usize, count: usize) {
+    let all = boards(random, rows, columns, mines, count);
+    println!("verdicts with the mine total shown, of {} boards of {} x {} with {} mines", count, rows, columns, mines);
+    for _ in 1..=3 {
+        let (mut solvable, mut solvable_with) = (0, 0);
+        let (plain, shown) = in_turns(count, |k| our_verdict(&all[k]), |k| our_verdict_with_total(&all[k]), |p, s| {
+            nothing_lost(&p, &s);
+            solvable += p.counts[0];
+            solvable_with += s.counts[0];
+        });
+        let n = count as f64;
+        println!("  {} of {} solvable, {} without the total; boards a second: {:.0}, without the total {:.0}, ratio {:.2}; slowest board: {:.0} us, without the total {:.0} us",
+            solvable_with, count, solvable, n / shown.all, n / plain.all, plain.all / shown.all, shown.slowest * 1e6, plain.slowest * 1e6);
     }
 }
 
@@ -251,6 +285,19 @@ fn hard(path: &str) {
         });
         println!("  {} x {}, largest block {} groups: values tried {} of {}; rust {:.1} ms, ours {:.3} ms, ratio {:.0}",
             b.rows, b.columns, groups, asked, walked, r.all * 1e3, o.all * 1e3, r.all / o.all);
+    }
+}
+
+/// The same boards one by one with their mine total shown.
+fn hard_with_total(path: &str) {
+    println!("boards of {} with the mine total shown", path);
+    for b in records(path) {
+        let mut told = String::new();
+        let (plain, shown) = in_turns(1, |_| our_verdict(&b), |_| our_verdict_with_total(&b), |p, s| {
+            nothing_lost(&p, &s);
+            told = format!("opened {}, without the total {}; grade {}", s.counts[1], p.counts[1], s.counts[2]);
+        });
+        println!("  {} x {}, {}: {:.3} ms, without the total {:.3} ms", b.rows, b.columns, told, shown.all * 1e3, plain.all * 1e3);
     }
 }
 
@@ -323,8 +370,14 @@ fn run() {
     }
     blocks_of(&mut random, &[20, 30, 40, 53], true);
     blocks_of(&mut random, &[20, 30, 40, 53], false);
+    totals(&mut random, 16, 30, 99, 2000);
+    println!("growth with the mine total shown, a fifth of the cells mines");
+    for side in [8, 12, 16, 20, 24, 28, 32] {
+        totals(&mut random, side, side, side * side / 5, 400);
+    }
     if let Some(path) = std::env::args().nth(1) {
         hard(&path);
+        hard_with_total(&path);
     }
 }
 

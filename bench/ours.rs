@@ -1,5 +1,6 @@
 // Our calls, as the static library has them: a slice is a pointer and a length, the answer is 0 or the number of a refusal, counts go to a lent slice.
 type Deduction = unsafe extern "C" fn(usize, usize, *mut u8, usize, *mut u16, usize, *mut u16, usize, *mut u64, usize) -> u8;
+type Judging = unsafe extern "C" fn(usize, usize, usize, usize, *const u8, usize, *mut u8, usize, *mut u16, usize, *mut u64, usize) -> u8;
 
 extern "C" {
     fn lihvompa_frontier(rows: usize, columns: usize, position: *const u8, length: usize, counts: *mut u64, counts_length: usize) -> u8;
@@ -19,7 +20,11 @@ extern "C" {
         rows: usize, columns: usize, position: *const u8, length: usize, block: usize, table: *mut u8, table_length: usize, counts: *mut u64, counts_length: usize,
     ) -> u8;
     fn lihvompa_pattern(rows: usize, columns: usize, cells: *const u8, length: usize, counts: *mut u64, counts_length: usize) -> u8;
-    fn lihvompa_verdict(
+    pub fn lihvompa_verdict(
+        rows: usize, columns: usize, start_row: usize, start_column: usize, cells: *const u8, length: usize, picture: *mut u8, picture_length: usize,
+        opened_in: *mut u16, opened_in_length: usize, counts: *mut u64, counts_length: usize,
+    ) -> u8;
+    pub fn lihvompa_verdict_total(
         rows: usize, columns: usize, start_row: usize, start_column: usize, cells: *const u8, length: usize, picture: *mut u8, picture_length: usize,
         opened_in: *mut u16, opened_in_length: usize, counts: *mut u64, counts_length: usize,
     ) -> u8;
@@ -71,10 +76,11 @@ pub struct Verdict {
     pub opened_in: Vec<u16>,
 }
 
-pub fn verdict(rows: usize, columns: usize, start: (usize, usize), cells: &[u8]) -> Verdict {
+/// The verdict without the mine total or with it, by the call.
+pub fn verdict(call: Judging, rows: usize, columns: usize, start: (usize, usize), cells: &[u8]) -> Verdict {
     let (mut picture, mut opened_in, mut counts) = (vec![0; cells.len()], vec![0; cells.len()], [0; 4]);
     let refusal = unsafe {
-        lihvompa_verdict(
+        call(
             rows, columns, start.0, start.1, cells.as_ptr(), cells.len(), picture.as_mut_ptr(), picture.len(), opened_in.as_mut_ptr(), opened_in.len(),
             counts.as_mut_ptr(), counts.len(),
         )
