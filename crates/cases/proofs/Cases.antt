@@ -19,11 +19,12 @@ use Rattle.marks.specs.Written.{written}
 use Rattle.deductions.specs.Answers.{refusedAnswer, afterFound}
 use Rattle.tables.specs.Tables.{tableOf, blockAsked, calAllSolution}
 use Rattle.rounds.specs.Rounds.{roundsOf, judgeRounds}
-use Rattle.verdict.specs.Verdict.{isSolvable}
+use Rattle.fitting.specs.ForcedCells.{minedInEvery, forcedCells}
+use Rattle.verdict.specs.Verdict.{isSolvable, isSolvableTotal}
 use Rattle.patterns.specs.Shapes.{amongMines, framed, foundAt, foundAnywhere, foundInCorner, patternFound}
 use Rattle.patterns.specs.Answer.{unsolvableStructure}
 use Rattle.cases.specs.Table.{endsWith, holds, table}
 
 pub all-cases : all holds table ≡ true
-unfolding table holds endsWith around neighbours sizeOk lengthOk roomOk boardCellsOk positionCellsOk startOk numbersOk startCell startSafe boardTested positionTested deductionTested fits freeInEvery askAmong allOpen rotated sources blockOf frontier insideCells knownMines chunkMatrix chunkMatrixes sureMines sureSafe directLeft direct minusMines minusSafe minusLeft subtraction refusedAnswer written afterFound patternTested amongMines framed foundAt foundAnywhere foundInCorner patternFound unsolvableStructure firsts groups sizes groupsIn weighed solutions safeCells mineCells enumerated tableOf blockAsked calAllSolution orElse openCells pass judge roundsOf judgeRounds isSolvable
+unfolding table holds endsWith around neighbours sizeOk lengthOk roomOk boardCellsOk positionCellsOk startOk numbersOk startCell startSafe boardTested positionTested deductionTested fits freeInEvery askAmong allOpen rotated sources blockOf frontier insideCells knownMines chunkMatrix chunkMatrixes sureMines sureSafe directLeft direct minusMines minusSafe minusLeft subtraction refusedAnswer written afterFound patternTested amongMines framed foundAt foundAnywhere foundInCorner patternFound unsolvableStructure firsts groups sizes groupsIn weighed solutions safeCells mineCells enumerated tableOf blockAsked calAllSolution orElse openCells pass judge roundsOf judgeRounds isSolvable minedInEvery forcedCells isSolvableTotal
 all-cases = refl

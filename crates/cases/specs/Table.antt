@@ -17,9 +17,11 @@ use Rattle.subtraction.specs.Minus.{subtraction}
 use Rattle.enumeration.specs.Enumeration.{enumerated}
 use Rattle.deductions.specs.Answers.{Seen, deduction}
 use Rattle.tables.specs.Tables.{tableNumber, tableValues, TableSeen, calAllSolution}
-use Rattle.verdict.specs.Verdict.{verdictNumber, verdictValues, VerdictSeen, isSolvable}
+use Rattle.verdict.specs.Verdict.{verdictNumber, verdictValues, VerdictSeen, isSolvable, isSolvableTotal}
 use Rattle.patterns.specs.Answer.{unsolvableStructure, patternNumber, patternValues}
-use Rattle.fitting.specs.Solver.{ask, solved}
+use Rattle.fitting.specs.Layouts.{anyLayout, ofTotal}
+use Rattle.fitting.specs.Boards.{mineTotal}
+use Rattle.fitting.specs.Solver.{askAmong, solvedAmong}
 use Rattle.fitting.specs.Demand.{opened}
 use Rattle.fitting.specs.Passes.{allOpen}
 
@@ -43,16 +45,21 @@ pub data Case : Type 0 where
   unjudged : (rows columns row column : ℕ) → List ℕ → (refusal : ℕ) → Case
   -- the same of a board that is lent so many sevens for the picture, and so many for the rounds
   mislent : (rows columns row column : ℕ) → List ℕ → (picture openedIn : ℕ) → (refusal : ℕ) → Case
+  -- the verdict of a board that shows its mine total, the same way, and its refusal
+  judged-total : (rows columns row column : ℕ) → List ℕ → (answer : Bool) → (opened grade rounds : ℕ) → (after openedIn : List ℕ) → Case
+  unjudged-total : (rows columns row column : ℕ) → List ℕ → (refusal : ℕ) → Case
   -- the pattern call on a board: the answer's number and its value, 1 where a pattern is found
   pattern : (rows columns : ℕ) → List ℕ → (number : ℕ) → (values : List ℕ) → Case
   -- the solver of demand 3 on a board, from the cell s: its position when it is done, its open cells, and whether they are all the safe ones
   solver : (rows columns s : ℕ) → List ℕ → List ℕ → ℕ → Bool → Case
+  -- the same of one who knows the board's mine total
+  solver-total : (rows columns s : ℕ) → List ℕ → List ℕ → ℕ → Bool → Case
 
--- the solver asks for every cell in turn, as often as there are cells, and then no ask changes the position
-unfoldable pub endsWith : ℕ → ℕ → ℕ → List ℕ → List ℕ → Bool
-endsWith rows columns s b p =
-    same (solved (neighbours flat rows columns) b s (range 0 (length b) ++ range 0 (length b))) p
-    && every (length b) (λ c. same (ask (neighbours flat rows columns) b p c) p)
+-- the solver, who goes by the layouts that pass a test, asks for every cell in turn, as often as there are cells, and then no ask changes the position
+unfoldable pub endsWith : (List Bool → Bool) → ℕ → ℕ → ℕ → List ℕ → List ℕ → Bool
+endsWith also rows columns s b p =
+    same (solvedAmong (neighbours flat rows columns) also b s (range 0 (length b) ++ range 0 (length b))) p
+    && every (length b) (λ c. same (askAmong (neighbours flat rows columns) also b p c) p)
 
 -- two lists are equal, element by element by a test
 abbrev sameBy : {A : Type 0} → (A → A → Bool) → List A → List A → Bool
@@ -124,7 +131,12 @@ holds (mislent rows columns row column b picture openedIn n) =
     sameVerdict (isSolvable flat rows columns row column b (replicate picture 7) (replicate openedIn 7)) n [] (replicate picture 7) (replicate openedIn 7)
 holds (pattern rows columns b n values) =
     eqb (patternNumber (unsolvableStructure rows columns b)) n && same (patternValues (unsolvableStructure rows columns b)) values
-holds (solver rows columns s b p n all) = endsWith rows columns s b p && (eqb (opened p) n && Bool·beq (allOpen b p) all)
+holds (judged-total rows columns row column b answer n grade rounds after openedIn) =
+    sameVerdict (isSolvableTotal rows columns row column b (replicate (length b) 0) (replicate (length b) 0)) 0 (bit answer ∷ n ∷ grade ∷ rounds ∷ []) after openedIn
+holds (unjudged-total rows columns row column b n) =
+    sameVerdict (isSolvableTotal rows columns row column b (replicate (length b) 0) (replicate (length b) 0)) n [] (replicate (length b) 0) (replicate (length b) 0)
+holds (solver rows columns s b p n all) = endsWith anyLayout rows columns s b p && (eqb (opened p) n && Bool·beq (allOpen b p) all)
+holds (solver-total rows columns s b p n all) = endsWith (ofTotal (mineTotal b)) rows columns s b p && (eqb (opened p) n && Bool·beq (allOpen b p) all)
 
 unfoldable pub table : List Case
 table =
@@ -219,6 +231,27 @@ table =
     ∷ unjudged 1 3 0 1 (1 ∷ 255 ∷ 1 ∷ []) 13
     ∷ unjudged 1 3 0 1 (9 ∷ 255 ∷ 1 ∷ []) 3
     ∷ unjudged 1 3 0 1 (1 ∷ 255 ∷ 0 ∷ []) 5
+    -- Paper 8: with the mine total shown. `1 255 1`, a guess without it: yes, the safe cell off the frontier found by the total
+    ∷ judged-total 1 3 0 0 (1 ∷ 255 ∷ 1 ∷ []) true 2 5 2 (1 ∷ 10 ∷ 1 ∷ []) (0 ∷ none ∷ 2 ∷ [])
+    ∷ solver-total 1 3 0 (1 ∷ 255 ∷ 1 ∷ []) (1 ∷ 10 ∷ 1 ∷ []) 2 true
+    -- safe cells away from the frontier come first, and a flood reaches the start's neighbour
+    ∷ judged-total 1 5 0 1 (0 ∷ 1 ∷ 255 ∷ 1 ∷ 0 ∷ []) true 4 5 2 (0 ∷ 1 ∷ 10 ∷ 1 ∷ 0 ∷ []) (2 ∷ 0 ∷ none ∷ 1 ∷ 1 ∷ [])
+    ∷ judged-total 3 3 2 1 (0 ∷ 0 ∷ 0 ∷ 0 ∷ 1 ∷ 1 ∷ 0 ∷ 1 ∷ 255 ∷ []) true 8 5 1 (0 ∷ 0 ∷ 0 ∷ 0 ∷ 1 ∷ 1 ∷ 0 ∷ 1 ∷ 10 ∷ [])
+    (1 ∷ 1 ∷ 1 ∷ 1 ∷ 1 ∷ 1 ∷ 1 ∷ 0 ∷ none ∷ [])
+    -- the total helps, and a guess stays: 4
+    ∷ judged-total 2 3 1 0 (1 ∷ 255 ∷ 1 ∷ 1 ∷ 1 ∷ 1 ∷ []) false 4 4 2 (1 ∷ 10 ∷ 1 ∷ 1 ∷ 10 ∷ 1 ∷ []) (2 ∷ none ∷ 1 ∷ 0 ∷ none ∷ 1 ∷ [])
+    ∷ solver-total 2 3 3 (1 ∷ 255 ∷ 1 ∷ 1 ∷ 1 ∷ 1 ∷ []) (1 ∷ 10 ∷ 1 ∷ 1 ∷ 10 ∷ 1 ∷ []) 4 false
+    -- it does not help
+    ∷ judged-total 1 3 0 1 (255 ∷ 1 ∷ 0 ∷ []) false 1 4 0 (10 ∷ 1 ∷ 10 ∷ []) (none ∷ 0 ∷ none ∷ [])
+    -- a pass of mines alone, known by the total, is a round
+    ∷ judged-total 1 5 0 2 (1 ∷ 255 ∷ 2 ∷ 255 ∷ 1 ∷ []) true 3 5 2 (1 ∷ 10 ∷ 2 ∷ 10 ∷ 1 ∷ []) (2 ∷ none ∷ 0 ∷ none ∷ 2 ∷ [])
+    -- no mine, and mines on all cells but one
+    ∷ judged-total 1 2 0 0 (0 ∷ 0 ∷ []) true 2 0 0 (0 ∷ 0 ∷ []) (0 ∷ 0 ∷ [])
+    ∷ judged-total 2 2 0 0 (3 ∷ 255 ∷ 255 ∷ 255 ∷ []) true 1 0 0 (3 ∷ 10 ∷ 10 ∷ 10 ∷ []) (0 ∷ none ∷ none ∷ none ∷ [])
+    -- the refusals are those of a plain board
+    ∷ unjudged-total 1 3 0 1 (1 ∷ 255 ∷ 1 ∷ []) 13
+    ∷ unjudged-total 1 3 0 1 (1 ∷ 255 ∷ 0 ∷ []) 5
+    ∷ unjudged-total 1 3 255 255 (255 ∷ 1 ∷ 0 ∷ []) 4
     -- 11. 32 rows accepted, 33 refusal 1
     ∷ board-tested 32 1 0 0 (replicate 32 0) 0
     ∷ board-tested 33 1 0 0 (replicate 33 0) 1

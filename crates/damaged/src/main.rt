@@ -36,4 +36,6 @@ fn main() {
     judge_file(b"refused_number");
     judge_file(b"refused_mine");
     judge_file(b"refused_open_start");
+    judge_file(b"total_mark");
+    judge_file(b"total_mark_refused");
 }

@@ -27,7 +27,8 @@ use Rattle.verdict.specs.Verdict.{verdictNumber, verdictValues, verdictYes, ver
 use Rattle.verdict.proofs.Bounds.{grade-tells}
 use Rattle.verdict.proofs.DemandThree.{answer-demand-3}
 use Rattle.verdict.proofs.RoundsTold.{answer-rounds}
-use Rattle.verdict.proofs.TotalAnswers.{totalRules, total-grade-tells, total-answer-demand-3, total-answer-rounds}
+use Rattle.verdict.specs.Rules.{fourRules}
+use Rattle.verdict.proofs.TotalAnswers.{total-grade-tells, total-answer-demand-3, total-answer-rounds}
 use Rattle.export.specs.Returned.{Returned, laid, verdictReturned}
 use Rattle.export.proofs.StoredCounts.{count-stored}
 
@@ -90,7 +91,7 @@ module _ (rows columns row column : ℕ) (b shown openedIn counts : List ℕ) (a
 
   pub counted-rounds-total : after ≡ verdictReturned (isSolvableTotal rows columns row column b shown openedIn) counts
       → boardTested flat rows columns row column b (length shown ∷ length openedIn ∷ []) ≡ Accepted → 3 < length counts → (c : ℕ) → c < length b
-      → RoundTells (neighbours flat rows columns) b (totalRules (neighbours flat rows columns) b) (startCell columns row column)
+      → RoundTells (neighbours flat rows columns) b (fourRules (neighbours flat rows columns) b) (startCell columns row column)
       (getD (after .lent) 0 []) (getD (after .counts) 3 0) c (getD (getD (after .lent) 1 []) c 65535)
   counted-rounds-total is accepted room c on =
       let seen = isSolvableTotal rows columns row column b shown openedIn in

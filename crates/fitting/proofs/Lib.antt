@@ -23,5 +23,5 @@ pub mod Passes
 pub mod Enough
 pub mod ForcedCells
 pub mod MoreOpened
-pub mod TotalDemand
+pub mod KnownTotal
 pub mod Examples

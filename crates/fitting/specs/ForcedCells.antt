@@ -1,5 +1,5 @@
--- Cited by no public contract. The rule that finds each closed cell, on or off the frontier, that is the same in every layout that fits and passes a test,
--- mines included. With the test for a mine total it is the fourth rule of Paper 8. Each list is in reading order. Assumes nothing.
+-- The rule that finds each closed cell, on or off the frontier, that is the same in every layout that fits and passes a test, mines included. With the test for a
+-- mine total it is the fourth rule of a pass (SPECIFICATION 9.7). Each list is in reading order. Assumes nothing.
 use mathlib.Core.Bool.{Bool, not, _&&_, _||_}
 use mathlib.Core.List.{List}
 use Prim.Native.Nat.{ℕ}

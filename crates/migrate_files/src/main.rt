@@ -23,6 +23,7 @@ fn main() {
     migrate_file(b"mark_alone");
     migrate_file(b"whole");
     migrate_file(b"unknown_mark_between");
+    migrate_file(b"total_mark_between");
     migrate_file(b"edgeless_mark_first");
     migrate_file(b"unknown_mark_without_a_record");
     migrate_file(b"unknown_first_byte");

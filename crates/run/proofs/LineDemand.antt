@@ -55,4 +55,4 @@ module _ (rows columns row column : ℕ) (b : List ℕ) where
   unfolding boardVerdict
   line-grade Plain = grade-tells flat rows columns row column b zeros zeros
   line-grade Total = total-grade-tells rows columns row column b zeros zeros
-  line-grade Unknown = refusal-tells Mark
+  line-grade Unknown = refusal-tells 3 Mark

@@ -36,7 +36,8 @@ pub fn find_by_total(
 {
     let set = read_blocks(edgeless, rows, columns, position);
     let inside = inside_cells(edgeless, rows, columns, position);
-    let rest = total - known_mines(position);
+    let known = known_mines(position);
+    let rest = total - known;
     let mut counts = [0u8; 2048];
     let mut mined = [2u8; 1024];
     let mut unfilled = [2u8; 1024];

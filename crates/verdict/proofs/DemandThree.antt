@@ -4,7 +4,6 @@ use mathlib.Core.Path.{_≡_, refl, ap, _∙_}
 use mathlib.Core.Bool.{Bool, false}
 use mathlib.Core.List.{List, [], _∷_}
 use Prim.Native.Nat.{ℕ}
-use native.Mathlib.Omega.{arith}
 use lib.ListN.{length}
 use Rattle.lists.proofs.Tests.{bit-is-one}
 use Rattle.grid.specs.Window.{neighbours}
@@ -22,11 +21,6 @@ use Rattle.verdict.specs.declared.Verdict.the-variants.{Refused}
 use Rattle.verdict.specs.Verdict.{VerdictSeen, verdictSeen, judgedFrom, isSolvable, MeetsDemand3}
 use Rattle.verdict.proofs.KindsOfBoard.{own-passes, rules-sound, rules-complete}
 use Rattle.verdict.proofs.Admitted.{tested-accepted}
-
--- a refusal doesn't meet it
-pub refusal-never-meets : {P : Type 0} {near : ℕ → List ℕ} {b : List ℕ} {s : ℕ} {v : Verdict} {r : Refusal} {shown : List ℕ} → v ≡ Refused r
-    → MeetsDemand3 near b s v shown → P
-refusal-never-meets is (has-values, _) = let none : _≡_ {A = ℕ} 0 4 = rw is at has-values in absurd (omega arith)
 
 module _ (edgeless : Bool) (rows columns row column : ℕ) (b shown openedIn : List ℕ) where
   -- the start's cell

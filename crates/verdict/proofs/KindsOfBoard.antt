@@ -11,7 +11,7 @@ use Rattle.fitting.specs.Rules.{SoundAmong, CompleteAmong}
 use Rattle.fitting.specs.ForcedCells.{forcedCells}
 use Rattle.fitting.proofs.Rules.{sound-among, complete-among-any, sound-among-orElse, complete-among-orElse}
 use Rattle.fitting.proofs.ForcedCells.{forced-cells-sound, forced-cells-complete}
-use Rattle.fitting.proofs.TotalDemand.{own-of-total}
+use Rattle.fitting.proofs.KnownTotal.{own-of-total}
 use Rattle.enumeration.specs.ThreeRules.{threeRules}
 use Rattle.enumeration.proofs.BoardRules.{board-rules-sound, board-rules-complete}
 use Rattle.verdict.specs.Rules.{rulesOf, layoutsOf}

@@ -19,7 +19,7 @@ use Rattle.refusals.proofs.Accepted.{accepted-board}
 use Rattle.fitting.specs.Demand.{opened}
 use Rattle.fitting.specs.Passes.{nothing, orElse, Ending, judge}
 use Rattle.fitting.proofs.Passes.{grade-of-a-rule, grade-zero}
-use Rattle.fitting.proofs.TotalDemand.{total-opens-more}
+use Rattle.fitting.proofs.KnownTotal.{total-opens-more}
 use Rattle.fitting.specs.ForcedCells.{forcedCells}
 use Rattle.enumeration.specs.ThreeRules.{threeRules}
 use Rattle.rounds.proofs.Rounds.{RoundTells, tells-picture}

@@ -1,5 +1,5 @@
--- The verdict as a caller sees it (SPECIFICATION 4.2 and 9): refusals 1 to 5 and 13; else the passes over the three rules from the start's cell, which is safe, the
--- picture of the position that they end with, and the round in which each cell was opened. A no has the grade 4. Assumes nothing.
+-- The verdict as a caller sees it (SPECIFICATION 4.2, 4.4 and 9): refusals 1 to 5 and 13; else the passes over the board's rules from the start's cell, which is safe,
+-- the picture of the position that they end with, and the round in which each cell was opened. A no has the grade 4. Assumes nothing.
 use mathlib.Core.Path.{_≡_}
 use mathlib.Core.Bool.{Bool, cond}
 use mathlib.Core.List.{List, [], _∷_}

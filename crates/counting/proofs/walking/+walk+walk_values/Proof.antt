@@ -1,4 +1,5 @@
--- `counting::walking::walk` and `walk_values`, which call each other, meet their contracts. TODO
+-- `counting::walking::walk` and `walk_values`, which call each other, meet their contracts: a state that the table has is answered from it, and any other goes through every value
+-- of its group and is then kept. The loop's invariant: the values so far are tried. The measure falls with the unset groups. Rests on Tables and TriedValues. Assumes nothing.
 use Prim.Native.Nat.{ℕ, _+_, _-_, _*_, _≤_, _<_}
 use mathlib.Core.Path.{_≡_, refl, sym, _∙_}
 use mathlib.Core.Logic.{⊎-elim}

@@ -10,7 +10,7 @@ use lib.ListN.{length}
 use Rattle.grid.specs.Window.{neighbours}
 use borrow.Author.Tests.{eqb-true}
 use Rattle.fitting.specs.Boards.{own}
-use Rattle.fitting.proofs.TotalDemand.{own-of-total}
+use Rattle.fitting.proofs.KnownTotal.{own-of-total}
 use Rattle.verdict.specs.Rules.{rulesOf}
 use Rattle.verdict.specs.Findings.{Finds, rulesAt}
 use Rattle.verdict.specs.declared.finding.Finding.{Finding}
