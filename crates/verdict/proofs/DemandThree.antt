@@ -8,19 +8,26 @@ use lib.ListN.{length}
 use Rattle.lists.proofs.Tests.{bit-is-one}
 use Rattle.grid.specs.Window.{neighbours}
 use Rattle.refusals.specs.declared.Refusal.{Refusal}
+use Rattle.refusals.specs.declared.Tested.{Tested}
 use Rattle.refusals.specs.declared.Tested.the-variants.{Accepted, Refused as TestRefused}
 use Rattle.refusals.specs.Tests.{boardTested, startCell}
 use Rattle.refusals.proofs.Accepted.{accepted-board}
-use Rattle.refusals.proofs.FirstFailure.{not-both}
 use Rattle.fitting.specs.Passes.{Ending, judge}
 use Rattle.fitting.specs.Demand.{Demand3Among, picture, opened}
 use Rattle.fitting.proofs.Passes.{judge-demand-3-among}
 use Rattle.verdict.specs.Rules.{rulesOf, layoutsOf}
 use Rattle.verdict.specs.declared.Verdict.{Verdict}
 use Rattle.verdict.specs.declared.Verdict.the-variants.{Refused}
-use Rattle.verdict.specs.Verdict.{VerdictSeen, verdictSeen, judgedFrom, isSolvable, MeetsDemand3}
+use Rattle.verdict.specs.Verdict.{VerdictSeen, verdictSeen, judgedFrom, verdictAfterTests, isSolvable, MeetsDemand3}
 use Rattle.verdict.proofs.KindsOfBoard.{own-passes, rules-sound, rules-complete}
 use Rattle.verdict.proofs.Admitted.{tested-accepted}
+
+-- after the tests: a refusal is the answer, and both slices stay as they were; a board that they accept is judged
+pub after-refusal : (t : Tested) (w : VerdictSeen) (shown openedIn : List ℕ) (x : Refusal) → t ≡ TestRefused x → verdictSeen (Refused x) shown openedIn ≡ verdictAfterTests t w shown openedIn
+after-refusal t w shown openedIn x refuses = rw refuses
+
+pub after-acceptance : (t : Tested) (w : VerdictSeen) (shown openedIn : List ℕ) → t ≡ Accepted → verdictAfterTests t w shown openedIn ≡ w
+after-acceptance t w shown openedIn accepts = rw accepts
 
 module _ (edgeless : Bool) (rows columns row column : ℕ) (b shown openedIn : List ℕ) where
   -- the start's cell
@@ -35,21 +42,11 @@ module _ (edgeless : Bool) (rows columns row column : ℕ) (b shown openedIn : L
   abbrev pub passed : Bool → Ending
   passed total = judge (neighbours edgeless rows columns) b (rulesOf total (neighbours edgeless rows columns) b) start
 
-  -- the tests refuse: the answer is their refusal, and both slices stay as they were
-  module _ (x : Refusal) (tests : boardTested edgeless rows columns row column b lent ≡ TestRefused x) where
-    pub tests-refuse : verdictSeen (Refused x) shown openedIn ≡ isSolvable edgeless rows columns row column b shown openedIn
-    unfolding isSolvable
-    tests-refuse = rw tests
-
-    -- demand 3 is asked of accepted boards only
-    pub refusal-demand-3 : {P : Type 0} → boardTested edgeless rows columns row column b lent ≡ Accepted → P
-    refusal-demand-3 accepted = not-both (boardTested edgeless rows columns row column b lent) x accepted tests
-
   module _ (tests : boardTested edgeless rows columns row column b lent ≡ Accepted) where
     -- the tests accept: the verdict is that from the start's cell, the end of the passes
     pub tests-accept : isSolvable edgeless rows columns row column b shown openedIn ≡ judgedFrom (neighbours edgeless rows columns) b (startCell columns row column)
     unfolding isSolvable
-    tests-accept = rw tests
+    tests-accept = after-acceptance _ _ shown openedIn tests
 
     -- with the mine total shown or not
     pub passes-demand-3 : (total : Bool)

@@ -1,8 +1,8 @@
 -- What a caller may rely on of the verdict of a board that shows its mine total: demand 3 with the layouts of that total, what the grade tells, and what the rounds of
 -- the cells tell; and beside the plain verdict of the same board no less is opened. Rests on DemandThree, Bounds and RoundsTold. Assumes nothing.
-use mathlib.Core.Path.{_≡_, refl, sym, ap, _∙_}
+use mathlib.Core.Path.{_≡_, refl, ap, _∙_}
 use mathlib.Core.Logic.{_≢_, inl, inr}
-use mathlib.Core.Bool.{Bool, true, false}
+use mathlib.Core.Bool.{true}
 use mathlib.Core.List.{List, [], _∷_}
 use Prim.Native.Nat.{ℕ, _≤_, _<_}
 use native.Mathlib.Omega.{arith}
@@ -11,7 +11,6 @@ use borrow.Author.Tests.{eqb-false}
 use Rattle.lists.proofs.Tests.{Decided, decided, bit-is-one}
 use Rattle.grid.specs.Cells.{shows}
 use Rattle.grid.specs.Window.{flat, neighbours}
-use Rattle.refusals.specs.declared.Refusal.{Refusal}
 use Rattle.refusals.specs.declared.Tested.{Tested}
 use Rattle.refusals.specs.declared.Tested.the-variants.{Accepted, Refused as TestRefused}
 use Rattle.refusals.specs.Tests.{boardTested, startCell}
@@ -25,10 +24,9 @@ use Rattle.enumeration.specs.ThreeRules.{threeRules}
 use Rattle.rounds.proofs.Rounds.{RoundTells, tells-picture}
 use Rattle.verdict.specs.Rules.{fourRules}
 use Rattle.verdict.specs.declared.Verdict.{Verdict}
-use Rattle.verdict.specs.declared.Verdict.the-variants.{Refused}
 use Rattle.verdict.specs.Verdict.{verdictYes, verdictOpened, verdictRounds, VerdictSeen, verdictSeen, judgedBy, verdictAfterTests, isSolvable, isSolvableTotal, MeetsDemand3Total}
 use Rattle.verdict.proofs.Admitted.{tested-accepted}
-use Rattle.verdict.proofs.DemandThree.{passed, passes-demand-3, answer-demand-3}
+use Rattle.verdict.proofs.DemandThree.{after-acceptance, passes-demand-3, answer-demand-3}
 use Rattle.verdict.proofs.Bounds.{three-grades, GradeTellsUpTo, board-grade-tells, refusal-tells}
 use Rattle.verdict.proofs.RoundsTold.{judged-round}
 
@@ -70,15 +68,10 @@ module _ (rows columns row column : ℕ) (b shown openedIn : List ℕ) where
           (grade-zero near b (fourRules near b) (startCell columns row column) (λ p _. four-grades near b p .0))
       go (TestRefused x) = refusal-tells 5 x
 
-  -- the tests refuse: the answer is their refusal, and both slices stay as they were
-  pub total-tests-refuse : (x : Refusal) → tests ≡ TestRefused x → verdictSeen (Refused x) shown openedIn ≡ isSolvableTotal rows columns row column b shown openedIn
-  unfolding isSolvableTotal
-  total-tests-refuse x refuses = rw refuses
-
   module _ (accepts : tests ≡ Accepted) where
     pub total-tests-accept : isSolvableTotal rows columns row column b shown openedIn ≡ judgedBy near b (fourRules near b) (startCell columns row column)
     unfolding isSolvableTotal
-    total-tests-accept = rw accepts
+    total-tests-accept = after-acceptance _ _ shown openedIn accepts
 
     module _ (r : Verdict) (after rounds : List ℕ) (is : verdictSeen r after rounds ≡ isSolvableTotal rows columns row column b shown openedIn) where
       told : verdictSeen r after rounds ≡ judgedBy near b (fourRules near b) (startCell columns row column)

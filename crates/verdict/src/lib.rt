@@ -24,7 +24,7 @@ ghost use Rattle.fitting.specs.Boards.{Accepted};
 ghost use Rattle.fitting.specs.Demand.{picture as pictureOf, opened};
 ghost use Rattle.rounds.specs.Rounds.{roundsOf};
 ghost use Rattle.verdict.specs.Rules.{rulesOf};
-ghost use Rattle.verdict.specs.Verdict.{boardGrade, verdictSeen, judgedBy, isSolvable, MeetsDemand3, isSolvableTotal, MeetsDemand3Total};
+ghost use Rattle.verdict.specs.Verdict.{boardGrade, verdictSeen, judgedBy, verdictAfterTests, isSolvable, MeetsDemand3, isSolvableTotal, MeetsDemand3Total};
 
 // What the verdict answers: a refusal, or yes or no, the opened cells, the grade and the rounds.
 pub enum Verdict {
@@ -127,6 +127,50 @@ fn judge(
     )
 }
 
+// The tests, and of a board that they accept the verdict from the start's cell, with the mine total shown or not.
+fn test_and_judge(
+    shows_total: bool,
+    edgeless: bool,
+    rows: usize,
+    columns: usize,
+    start_row: usize,
+    start_column: usize,
+    cells: &[u8],
+    picture: &mut [u8],
+    opened_in: &mut [u16],
+) -> Verdict
+    ensures { λ r. ⌜ verdictSeen r (now (picture .exit)) (now («opened_in» .exit))
+        ≡ verdictAfterTests (boardTested edgeless rows columns «start_row» «start_column» (now (cells .entry)) (length (now (picture .entry)) ∷ length (now («opened_in» .entry)) ∷ []))
+        (judgedBy (neighbours edgeless rows columns) (now (cells .entry)) (rulesOf «shows_total» (neighbours edgeless rows columns) (now (cells .entry))) (startCell columns «start_row» «start_column»))
+        (now (picture .entry)) (now («opened_in» .entry)) ⌝ }
+{
+    let lent = [picture.len(), opened_in.len()];
+    match test_board(
+        edgeless,
+        rows,
+        columns,
+        start_row,
+        start_column,
+        cells,
+        &lent,
+    ) {
+        Tested::Refused(refusal) => Verdict::Refused(refusal),
+        Tested::Accepted => {
+            let start = start_cell(rows, columns, start_row, start_column);
+            judge(
+                shows_total,
+                edgeless,
+                rows,
+                columns,
+                cells,
+                start,
+                picture,
+                opened_in,
+            )
+        }
+    }
+}
+
 // is_solvable: refusals 1 to 5 and 13, then the verdict.
 pub fn is_solvable(
     edgeless: bool,
@@ -143,31 +187,17 @@ pub fn is_solvable(
     ensures { λ r. ⌜ (boardTested edgeless rows columns «start_row» «start_column» (now (cells .entry)) (length (now (picture .entry)) ∷ length (now («opened_in» .entry)) ∷ []) ≡ TestAccepted
         → MeetsDemand3 (neighbours edgeless rows columns) (now (cells .entry)) (startCell columns «start_row» «start_column») r (now (picture .exit))) ⌝ }
 {
-    let lent = [picture.len(), opened_in.len()];
-    match test_board(
+    test_and_judge(
+        false,
         edgeless,
         rows,
         columns,
         start_row,
         start_column,
         cells,
-        &lent,
-    ) {
-        Tested::Refused(refusal) => Verdict::Refused(refusal),
-        Tested::Accepted => {
-            let start = start_cell(rows, columns, start_row, start_column);
-            judge(
-                false,
-                edgeless,
-                rows,
-                columns,
-                cells,
-                start,
-                picture,
-                opened_in,
-            )
-        }
-    }
+        picture,
+        opened_in,
+    )
 }
 
 // The same of a board that shows its mine total, which is that of its own mines: the passes have a fourth rule, which knows it.
@@ -185,12 +215,15 @@ pub fn is_solvable_total(
     ensures { λ r. ⌜ (boardTested flat rows columns «start_row» «start_column» (now (cells .entry)) (length (now (picture .entry)) ∷ length (now («opened_in» .entry)) ∷ []) ≡ TestAccepted
         → MeetsDemand3Total (neighbours flat rows columns) (now (cells .entry)) (startCell columns «start_row» «start_column») r (now (picture .exit))) ⌝ }
 {
-    let lent = [picture.len(), opened_in.len()];
-    match test_board(false, rows, columns, start_row, start_column, cells, &lent) {
-        Tested::Refused(refusal) => Verdict::Refused(refusal),
-        Tested::Accepted => {
-            let start = start_cell(rows, columns, start_row, start_column);
-            judge(true, false, rows, columns, cells, start, picture, opened_in)
-        }
-    }
+    test_and_judge(
+        true,
+        FLAT,
+        rows,
+        columns,
+        start_row,
+        start_column,
+        cells,
+        picture,
+        opened_in,
+    )
 }

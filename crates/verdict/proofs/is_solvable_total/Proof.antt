@@ -1,68 +1,13 @@
--- `is_solvable_total` meets its contract: a refusal by the tests ends the call; else the verdict is that from the start's cell with the mine total shown, and demand 3 with
--- the layouts of the total is the law of any answer that is the definition's. Rests on TotalAnswers and on the contracts of the calls. Assumes nothing.
-use mathlib.Core.Path.{_≡_, refl, sym, _∙_}
-use mathlib.Core.List.{[], _∷_}
-use native.Mathlib.Omega.{arith}
+-- `is_solvable_total` meets its contract: the answer is that of `test_and_judge`, which is the definition's, and demand 3 of it is the law of any such answer.
+-- Rests on TotalAnswers. Assumes nothing.
 use borrow.Author.Needs.{needs}
-use lib.ListN.{length}
-use Rattle.refusals.specs.declared.Tested.the-variants.{Accepted}
-use Rattle.grid.specs.Window.{flat}
-use Rattle.refusals.specs.Tests.{boardTested}
-use Rattle.refusals.proofs.Accepted.{AcceptedBoard, accepted-board, lent-length}
-use Rattle.verdict.proofs.DemandThree.{refusal-demand-3}
-use Rattle.verdict.proofs.TotalAnswers.{total-tests-refuse, total-tests-accept, total-answer-demand-3}
+use Rattle.verdict.specs.Verdict.{isSolvableTotal}
+use Rattle.verdict.proofs.TotalAnswers.{total-answer-demand-3}
 use Rattle.verdict.proofs.is_solvable_total.Statement.{statement}
 use Rattle.verdict.proofs.is_solvable_total.Tie as tie
-use Rattle.verdict.proofs.Admitted.{tested-accepted}
 
-slice-aggregate-test-board : tie.Need-slice-aggregate-test-board
-slice-aggregate-test-board c = refl
-
-test-board-requires : tie.Need-test-board-requires
-test-board-requires c κs = search needs
-
-enum-known-refusal : tie.Need-enum-known-refusal
-enum-known-refusal c = search needs
-
-enum-told : tie.Need-enum-told
-enum-told c = search needs
-
--- from where the tests accept back to the call
-abbrev called : tie.After-enum-told → tie.Start
-called c = c .before .before .before .before .before .before .before
-
--- the tests accept
-tests : (c : tie.After-enum-told)
-    → (let a = called c .args in
-    boardTested flat (a .rows) (a .columns) (a .start-row) (a .start-column) (a .cells .now) (length (a .picture .now) ∷ length (a .opened-in .now) ∷ []) ≡ Accepted)
-tests c = sym (c .before .before .test-board .ensures) ∙ c .enum-told .given .1
-
--- so this is known of the input
-facts : (c : tie.After-enum-told)
-    → (let a = called c .args in
-    AcceptedBoard flat (a .rows) (a .columns) (a .start-row) (a .start-column) (a .cells .now) (length (a .picture .now) ∷ length (a .opened-in .now) ∷ []))
-facts c = accepted-board _ _ _ _ _ _ _ (tests c)
-
-start-cell-requires : tie.Need-start-cell-requires
-start-cell-requires c κs = (facts c .board .sized, facts c .start)
-
-judge-requires : tie.Need-judge-requires
-judge-requires c κs =
-    let accepts = c .before .before .before in
-    let accepted = facts accepts in (
-      (accepted .board, record { sized = accepted .board .sized; whole = lent-length accepted 0 (omega arith) }),
-      (tested-accepted _ _ _ _ _ _ _ (tests accepts), (rw (c .before .before .start-cell .ensures) (accepted .start-within, accepted .start-safe), lent-length accepted 1 (omega arith))),
-    )
-
-returns : tie.Need-returns
-returns c =
-    let told = c .before .refusal .given in
-    let tested = c .before .before .before in
-    let a = tested .before .before .before .before .before .args in
-    let refuses = sym (tested .test-board .ensures) ∙ told .1 in (
-      total-tests-refuse _ _ _ _ _ (a .picture .now) (a .opened-in .now) (told .0 .0) refuses,
-      λ accepts. refusal-demand-3 _ _ _ _ _ _ (a .picture .now) (a .opened-in .now) (told .0 .0) refuses accepts,
-    )
+test-and-judge-requires : tie.Need-test-and-judge-requires
+test-and-judge-requires c κs = search needs
 
 same-length : tie.Need-same-length
 same-length c = search needs
@@ -70,29 +15,13 @@ same-length c = search needs
 same-length-2 : tie.Need-same-length-2
 same-length-2 c = search needs
 
-returns-2 : tie.Need-returns-2
-returns-2 c =
+returns : tie.Need-returns
+unfolding isSolvableTotal
+returns c =
     let judged = c .before .before .before .before in
-    let started = judged .before .before .before in
-    let accepts = started .before in
-    let a = called accepts .args in
-    let seen = (rw (started .start-cell .ensures) at (judged .judge .ensures))
-    ∙ sym (total-tests-accept _ _ _ _ _ (a .picture .now) (a .opened-in .now) (tests accepts)) in (
-      seen,
-      λ accepted. total-answer-demand-3 _ _ _ _ _ (a .picture .now) (a .opened-in .now) accepted _ _ _ seen,
-    )
+    let called = judged .before .before .before .before .before .before in
+    let seen = judged .test-and-judge .ensures in
+    (seen, λ accepts. total-answer-demand-3 _ _ _ _ _ (called .args .picture .now) (called .args .opened-in .now) accepts _ _ _ seen)
 
 pub is-solvable-total-spec : {M : Type 1} → statement M
-is-solvable-total-spec =
-    tie.close
-    (tie.spec
-    slice-aggregate-test-board
-    test-board-requires
-    enum-known-refusal
-    enum-told
-    start-cell-requires
-    judge-requires
-    returns
-    same-length
-    same-length-2
-    returns-2)
+is-solvable-total-spec = tie.close (tie.spec test-and-judge-requires same-length same-length-2 returns)
