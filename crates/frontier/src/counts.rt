@@ -1,4 +1,5 @@
 // inside_cell and is_minenum: the closed cells that touch no open one, and the known mines.
+use grid::cells::count_showing;
 use grid::window::neighbours_of;
 use grid::window::wide;
 ghost use mathlib.Core.Path.{_≡_};
@@ -57,11 +58,5 @@ pub fn known_mines(position: &[u8]) -> usize
     requires { ⌜ length (now position) ≤ 1024 ⌝ }
     ensures { λ r. ⌜ r ≡ knownMines (now (position .entry)) ⌝ }
 {
-    let mut count = 0;
-    for c in 0..position.len() {
-        if position[c] == 11 {
-            count += 1;
-        }
-    }
-    count
+    count_showing(position, 11)
 }

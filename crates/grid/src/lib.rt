@@ -1,2 +1,3 @@
 // Boards and positions as bytes, and the one neighbour window.
+pub mod cells;
 pub mod window;

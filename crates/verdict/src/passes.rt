@@ -1,6 +1,7 @@
 // The passes: each marks the mines and opens the safe cells that the rules find, until all safe cells are open or a pass finds nothing.
 use super::finding::Finding;
 use super::finding::find_in_pass;
+use grid::cells::count_showing;
 use marks::write_at_cells;
 use rounds::open_in_round;
 ghost use mathlib.Core.Path.{_≡_};
@@ -52,26 +53,15 @@ fn copy_cells(from: &[u8], to: &mut [u8])
     }
 }
 
-// The mine total of a board.
-fn count_mines(board: &[u8]) -> usize
-    requires { ⌜ length (now board) ≤ 1024 ⌝ }
-    ensures { λ r. ⌜ r ≡ mineTotal (now (board .entry)) ⌝ }
-{
-    let mut count = 0;
-    for c in 0..board.len() {
-        if board[c] == 255 {
-            count += 1;
-        }
-    }
-    count
-}
-
-// The same where it is shown; a plain board's is not counted.
+// The mine total of a board where it is shown; a plain board's is not counted.
 fn total_shown(shows_total: bool, board: &[u8]) -> usize
-    requires { ⌜ length (now board) ≤ 1024 ⌝ }
     ensures { λ r. ⌜ («shows_total» ≡ true → r ≡ mineTotal (now (board .entry))) ⌝ }
 {
-    if shows_total { count_mines(board) } else { 0 }
+    if shows_total {
+        count_showing(board, 255)
+    } else {
+        0
+    }
 }
 
 // The greater of two grades.

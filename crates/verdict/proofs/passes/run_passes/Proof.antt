@@ -66,7 +66,7 @@ copy-cells-requires c κs =
     omega (arith, first-board _ (s .pre .0 .0) (s .args .start) (on .0) (on .1) (s .pre .1 .0) (on .2) (opened .open-start .ensures .0) .whole, s .pre .0 .2 .whole)
 
 total-shown-requires : tie.Need-total-shown-requires Inv-loop μ-loop
-total-shown-requires c κs = few (called (c .before .before .before .before .before .before .before .before .before) .pre .0 .0)
+total-shown-requires c κs = search needs
 
 loop-holds : tie.Need-loop-holds Inv-loop μ-loop
 loop-holds c =

@@ -1,5 +1,5 @@
--- `passes::count_mines` meets its contract. The loop's invariant: the count so far and the mines among the cells from c on are together all mines; at most c are
--- counted. The measure is what is left of the board. Rests on `drop-more`. Assumes nothing.
+-- `cells::count_showing` meets its contract. The loop's invariant: those found and those among the cells from c on are together all that show the value; at most
+-- c are found. The measure is what is left of the cells. Rests on `drop-more`. Assumes nothing.
 use Prim.Native.Nat.{ℕ, _+_, _-_, _≤_}
 use mathlib.Core.Path.{_≡_}
 use mathlib.Core.Logic.{⊎-elim}
@@ -10,16 +10,16 @@ use borrow.Author.Needs.{needs}
 use borrow.Author.Tests.{eq-eqb, ne-eqb}
 use Rattle.lists.specs.Lists.{count}
 use Rattle.lists.proofs.Arrays.{drop-more, drop-none}
-use Rattle.verdict.proofs.passes.count_mines.Statement.{statement}
-use Rattle.verdict.proofs.passes.count_mines.Tie as tie
+use Rattle.grid.proofs.cells.count_showing.Statement.{statement}
+use Rattle.grid.proofs.cells.count_showing.Tie as tie
 
 abbrev Inv-loop : tie.InvT-loop
-Inv-loop board count₀ c₀ c-end counted c =
-    (counted + count (λ (v : ℕ). eqb v 255) (drop c board) ≡ count (λ (v : ℕ). eqb v 255) board)
-    × (counted ≤ c)
+Inv-loop cells value found₀ c₀ c-end found c =
+    (found + count (λ v. eqb v value) (drop c cells) ≡ count (λ v. eqb v value) cells)
+    × (found ≤ c)
 
 abbrev μ-loop : tie.MeasureT-loop
-μ-loop board count₀ c₀ c-end counted c = c-end - c
+μ-loop cells value found₀ c₀ c-end found c = c-end - c
 
 loop-holds : tie.Need-loop-holds Inv-loop μ-loop
 loop-holds c = (omega arith, omega arith)
@@ -27,8 +27,8 @@ loop-holds c = (omega arith, omega arith)
 shared-slice-read-if1 : tie.Need-shared-slice-read-if1 Inv-loop μ-loop
 shared-slice-read-if1 c = search needs
 
-add-count : tie.Need-add-count Inv-loop μ-loop
-add-count c = search needs
+add-found : tie.Need-add-found Inv-loop μ-loop
+add-found c = search needs
 
 add-c : tie.Need-add-c Inv-loop μ-loop
 add-c c = search needs
@@ -48,15 +48,15 @@ loop-again c =
 returns : tie.Need-returns Inv-loop μ-loop
 returns c = omega (arith, rw (drop-none _ _ (c .loop-test .left)) at (c .before .loop .inv .0))
 
-pub count-mines-spec : {M : Type 1} → statement M
-count-mines-spec =
+pub count-showing-spec : {M : Type 1} → statement M
+count-showing-spec =
     tie.close
     (tie.spec
     Inv-loop
     μ-loop
     loop-holds
     shared-slice-read-if1
-    add-count
+    add-found
     add-c
     loop-less
     loop-again
