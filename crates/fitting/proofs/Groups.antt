@@ -26,7 +26,7 @@ abbrev pub times : ℕ → List ℕ → ℕ
 times c l = count (λ x. eqb x c) l
 
 -- in a list with no number twice
-times-has : (c : ℕ) (l : List ℕ) → nodup l ≡ true → times c l ≡ bit (has l c)
+pub times-has : (c : ℕ) (l : List ℕ) → nodup l ≡ true → times c l ≡ bit (has l c)
 times-has c [] n = refl
 times-has c (x ∷ l) n = go (decided (eqb x c)) (times-has c l (nodup-tail x l n)) (nodup-head x l n)
   where

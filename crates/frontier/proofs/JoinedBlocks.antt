@@ -33,12 +33,12 @@ SolvesEach f bs = (b : Block) → List·Memᴰ b bs → Solves f b
 -- ---- blocks that share no cell
 
 -- what is the same at the cells of a block solves it too
-same-solves : (b : Block) → Proper b → (f g : ℕ → Bool) → ((c : ℕ) → has (b .cells) c ≡ true → f c ≡ g c) → Solves g b → Solves f b
+pub same-solves : (b : Block) → Proper b → (f g : ℕ → Bool) → ((c : ℕ) → has (b .cells) c ≡ true → f c ≡ g c) → Solves g b → Solves f b
 same-solves b proper f g same s i = rw (count-ext f g (i .0 .cells) (λ c h. same c (proper .within (i .0) (i .1) c h))) (s i)
 
 -- g at some cells, and h elsewhere
-abbrev joinedAt : List ℕ → (ℕ → Bool) → (ℕ → Bool) → ℕ → Bool
-joinedAt cells g h c = cond (has cells c) (g c) (h c)
+abbrev pub onCells : List ℕ → (ℕ → Bool) → (ℕ → Bool) → ℕ → Bool
+onCells cells g h c = cond (has cells c) (g c) (h c)
 
 -- each block is solved, and no cell stands twice: then something solves all
 pub solutions-join : (bs : List Block) → ((b : Block) → List·Memᴰ b bs → Proper b) → nodup (allCells bs) ≡ true
@@ -48,7 +48,7 @@ solutions-join (b ∷ bs) proper once each =
     let (g, s) = each b (List·Memᴰ·head refl) in
     let (h, t) = solutions-join bs (λ x m. proper x (List·Memᴰ·tail m)) (among-nodup (allCells bs) (allCells (b ∷ bs)) (among-right (b .cells) (allCells bs)) once)
     (λ x m. each x (List·Memᴰ·tail m)) in
-    (joinedAt (b .cells) g h, λ x m. go g s h t x (List·Memᴰ·cases-cons m))
+    (onCells (b .cells) g h, λ x m. go g s h t x (List·Memᴰ·cases-cons m))
   where
     -- a cell of another block is none of this one
     other : (x : Block) → List·Memᴰ x bs → (c : ℕ) → has (x .cells) c ≡ true → has (b .cells) c ≡ false
@@ -59,11 +59,11 @@ solutions-join (b ∷ bs) proper once each =
         out (inr e) = e
 
     go : (g : ℕ → Bool) → Solves g b → (h : ℕ → Bool) → SolvesEach h bs
-        → (x : Block) → (x ≡ b) ⊎ List·Memᴰ x bs → Solves (joinedAt (b .cells) g h) x
+        → (x : Block) → (x ≡ b) ⊎ List·Memᴰ x bs → Solves (onCells (b .cells) g h) x
     go g s h t x (inl e) =
-        subst (λ (y : Block). Solves (joinedAt (b .cells) g h) y) (sym e)
-        (same-solves b (proper b (List·Memᴰ·head refl)) (joinedAt (b .cells) g h) g (λ c k. rw k) s)
-    go g s h t x (inr m) = same-solves x (proper x (List·Memᴰ·tail m)) (joinedAt (b .cells) g h) h (λ c k. rw (other x m c k)) (t x m)
+        subst (λ (y : Block). Solves (onCells (b .cells) g h) y) (sym e)
+        (same-solves b (proper b (List·Memᴰ·head refl)) (onCells (b .cells) g h) g (λ c k. rw k) s)
+    go g s h t x (inr m) = same-solves x (proper x (List·Memᴰ·tail m)) (onCells (b .cells) g h) h (λ c k. rw (other x m c k)) (t x m)
 
 -- ---- the blocks of a frontier
 

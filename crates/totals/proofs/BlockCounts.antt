@@ -4,22 +4,21 @@
 -- Assumes nothing.
 use mathlib.Core.Path.{_≡_, refl, sym, ap, _∙_}
 use mathlib.Core.Logic.{inl, inr, _≢_}
-use mathlib.Core.Bool.{Bool, true, false, not, _&&_}
+use mathlib.Core.Bool.{Bool, true, false}
 use mathlib.Core.List.{List, [], _∷_, map, List·Memᴰ}
 use Prim.Native.Nat.{ℕ, _+_, _≤_, _<_}
 use native.Mathlib.Omega.{arith}
 use native.Mathlib.Decide.{decLt}
 use lib.Dec.{eqb}
 use lib.ListN.{length, getD}
-use borrow.Author.Tests.{eqb-true, eq-eqb, ne-eqb, not-true}
-use Rattle.lists.specs.Lists.{bit, count, has, nodup, joined, without}
+use borrow.Author.Tests.{eqb-true, eq-eqb, ne-eqb}
+use Rattle.lists.specs.Lists.{bit, count, has, joined}
 use Rattle.lists.proofs.Tests.{Decided, decided, clash}
-use Rattle.lists.proofs.Members.{kept-passes}
-use Rattle.lists.proofs.Counts.{count-le, count-none, count-full, count-zero, count-append, count-out, some-passes, some-fails}
+use Rattle.lists.proofs.Counts.{count-le, count-none, count-full, count-append, some-passes, some-fails}
 use Rattle.lists.proofs.Occurrences.{any-in, in-any}
 use Rattle.lists.proofs.PlacesAndRanges.{map-read}
 use Rattle.fitting.specs.Equations.{Equation}
-use Rattle.fitting.proofs.Groups.{times, move, Alike, exchange}
+use Rattle.fitting.proofs.Groups.{times-has, move, Alike, exchange}
 use Rattle.blocks.specs.Blocks.{Block}
 use Rattle.blocks.proofs.ProperBlocks.{Proper, saysIn, Solves}
 use Rattle.groups.specs.Groups.{groups, groupOf, sizes}
@@ -34,17 +33,6 @@ use Rattle.totals.specs.Totals.{possibleCount}
 sum-counts : (f : ℕ → Bool) (ls : List (List ℕ)) → sum (map (λ (l : List ℕ). count f l) ls) ≡ count f (joined ls)
 sum-counts f [] = refl
 sum-counts f (l ∷ ls) = omega (arith, sum-counts f ls, count-append f l (joined ls))
-
--- how often a number stands in a list with no number twice
-times-once : (c : ℕ) (l : List ℕ) → nodup l ≡ true → times c l ≡ bit (has l c)
-times-once c l once =
-    count-out (λ x. eqb x c) c l once
-    ∙ rw (eq-eqb c c refl, count-zero (λ x. eqb x c) (without c l) (λ x h. not-true (eqb x c) (kept-passes (λ y. not (eqb y c)) l x h)))
-    (same (has l c))
-  where
-    same : (t : Bool) → bit (t && true) + 0 ≡ bit t
-    same true = refl
-    same false = refl
 
 -- one of some cells is a mine: they have some
 counts-some : (f : ℕ → Bool) (l : List ℕ) (c : ℕ) → has l c ≡ true → f c ≡ true → 0 < count f l
@@ -122,9 +110,9 @@ module _ (b : Block) (proper : Proper b) where
     -- two cells of the group stand in the same equations
     same-equations : (a d : ℕ) → has members a ≡ true → has members d ≡ true → Alike (saysIn b) a d
     same-equations a d h k i =
-        times-once a (i .0 .cells) (proper .equations-once (i .0) (i .1))
+        times-has a (i .0 .cells) (proper .equations-once (i .0) (i .1))
         ∙ ap bit (group-in-equation b (groupOf b c) a h (i .0) (i .1) ∙ sym (group-in-equation b (groupOf b c) d k (i .0) (i .1)))
-        ∙ sym (times-once d (i .0 .cells) (proper .equations-once (i .0) (i .1)))
+        ∙ sym (times-has d (i .0 .cells) (proper .equations-once (i .0) (i .1)))
 
     -- so a mine moves from one to another, and the block's count stays
     moved : (f : ℕ → Bool) (a d : ℕ) → has members a ≡ true → has members d ≡ true → f a ≡ true → f d ≡ false
@@ -140,9 +128,9 @@ module _ (b : Block) (proper : Proper b) where
 
         alike-whole : Alike whole a d
         alike-whole _ =
-            times-once a (b .cells) (proper .once)
+            times-has a (b .cells) (proper .once)
             ∙ ap bit (group-of-block b (groupOf b c) a h ∙ sym (group-of-block b (groupOf b c) d k))
-            ∙ sym (times-once d (b .cells) (proper .once))
+            ∙ sym (times-has d (b .cells) (proper .once))
 
     -- ---- what the rows say of the cell
 

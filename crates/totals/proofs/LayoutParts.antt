@@ -23,9 +23,8 @@ use Rattle.blocks.proofs.ProperBlocks.{block-cell}
 use Rattle.frontier.specs.Frontier.{frontier, knownMines}
 use Rattle.frontier.proofs.BlockLaws.{frontier-proper}
 use Rattle.frontier.proofs.Coverage.{frontier-closed}
-use Rattle.frontier.proofs.JoinedBlocks.{SolvesEach, blocks-solve}
+use Rattle.frontier.proofs.JoinedBlocks.{SolvesEach, onCells, same-solves, blocks-solve}
 use Rattle.totals.specs.Totals.{isInside}
-use Rattle.totals.proofs.SeveralBlocks.{onCells, same-solves}
 use Rattle.totals.proofs.InsideCells.{insideList, inside-closed, inside-listed, listed-inside, frontier-not-inside, mines-parted}
 
 module _ (near : ℕ → List ℕ) (p : List ℕ) (once : (c : ℕ) → nodup (near c) ≡ true) (few : (c : ℕ) → length (near c) ≤ 8)

@@ -3,7 +3,7 @@
 -- i-th, and the others. For blocks as they should be (`Proper`). Rests on SumsOfSets and BlockCounts. Assumes nothing.
 use mathlib.Core.Path.{_≡_, refl, sym, ap, _∙_, subst}
 use mathlib.Core.Logic.{_⊎_, inl, inr}
-use mathlib.Core.Bool.{Bool, true, false, cond}
+use mathlib.Core.Bool.{Bool, true, false}
 use mathlib.Core.List.{List, [], _∷_, _++_, map, List·Memᴰ, List·Memᴰ·head, List·Memᴰ·tail, List·Memᴰ·not-nil, List·Memᴰ·cases-cons, List·Memᴰ·append-cases, Memᴰ·append-left, Memᴰ·append-right, map-append}
 use Prim.Native.Nat.{ℕ, suc, _+_, _<_}
 use native.Mathlib.Omega.{arith}
@@ -20,7 +20,7 @@ use Rattle.blocks.specs.Blocks.{Block}
 use Rattle.blocks.specs.BlockSets.{allCells}
 use Rattle.blocks.proofs.ProperBlocks.{Proper, block-cell, Solves}
 use Rattle.blocks.proofs.Reading.{noBlock}
-use Rattle.frontier.proofs.JoinedBlocks.{SolvesEach}
+use Rattle.frontier.proofs.JoinedBlocks.{SolvesEach, same-solves, onCells}
 use Rattle.totals.specs.Totals.{possibleCount, sumsTo, othersThan}
 use Rattle.totals.proofs.SumsOfSets.{sums-more, none-sums, more-sums}
 use Rattle.totals.proofs.BlockCounts.{solution-possible, possible-solution}
@@ -30,10 +30,6 @@ abbrev pub ProperEach : List Block → Type 0
 ProperEach bs = (b : Block) → List·Memᴰ b bs → Proper b
 
 -- ---- two placings of mines, put together
-
--- g at some cells, and h elsewhere
-abbrev pub onCells : List ℕ → (ℕ → Bool) → (ℕ → Bool) → ℕ → Bool
-onCells cells g h c = cond (has cells c) (g c) (h c)
 
 module _ (k l : List ℕ) (g h : ℕ → Bool) where
   -- on these cells it counts as g
@@ -51,10 +47,6 @@ other-side k l once c h = go (decided (has k c))
     go : Decided (has k c) → has k c ≡ false
     go (inl e) = clash (has l c) h (nodup-apart k l once c e)
     go (inr e) = e
-
--- what is the same at the cells of a block solves it too
-pub same-solves : (b : Block) → Proper b → (f g : ℕ → Bool) → ((c : ℕ) → has (b .cells) c ≡ true → f c ≡ g c) → Solves g b → Solves f b
-same-solves b proper f g same s i = rw (count-ext f g (i .0 .cells) (λ c h. same c (proper .within (i .0) (i .1) c h))) (s i)
 
 -- ---- a block and others
 

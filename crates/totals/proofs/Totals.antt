@@ -28,14 +28,14 @@ use Rattle.frontier.specs.Frontier.{frontier, insideCells, knownMines}
 use Rattle.frontier.proofs.BlockLaws.{frontier-proper}
 use Rattle.frontier.proofs.Coverage.{frontier-once}
 use Rattle.frontier.proofs.Fitting.{fits-solves-block}
-use Rattle.frontier.proofs.JoinedBlocks.{SolvesEach}
+use Rattle.frontier.proofs.JoinedBlocks.{SolvesEach, onCells}
 use Rattle.search.specs.Solutions.{sum, solutions}
 use Rattle.search.proofs.GroupRows.{solution-listed}
 use Rattle.totals.specs.Totals.{possibleCount, upTo, sumsTo, isInside, minesLeft, othersThan, allowedCount, someMine, someFree, insideMine, insideFree}
 use Rattle.totals.proofs.SumsOfSets.{sums-more, more-sums}
 use Rattle.totals.proofs.ChosenNumbers.{chosen, count-rest, length-rest, chosen-with}
 use Rattle.totals.proofs.BlockCounts.{SolutionWith, rowOf, row-sum, mine-in-row, free-in-row, row-mine, row-free}
-use Rattle.totals.proofs.SeveralBlocks.{ProperEach, onCells, joined-own, joined-others, joined-count, solutions-sum, sum-solutions, there-or-other, other-listed, cells-there-and-others}
+use Rattle.totals.proofs.SeveralBlocks.{ProperEach, joined-own, joined-others, joined-count, solutions-sum, sum-solutions, there-or-other, other-listed, cells-there-and-others}
 use Rattle.totals.proofs.InsideCells.{insideList, inside-listed, inside-once, inside-length, mines-parted}
 use Rattle.totals.proofs.LayoutParts.{layoutFrom, layout-from-fits, layout-from-frontier, layout-from-inside, layout-from-mines}
 
