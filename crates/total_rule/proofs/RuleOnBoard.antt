@@ -64,8 +64,8 @@ module _ (edgeless : Bool) (rows columns : ℕ) (p : List ℕ) (board : Board p 
     pub known-few : knownMines p ≤ total
     known-few = omega (arith, known-at-most near p some fit, holds)
 
-    pub rest-few : total - knownMines p ≤ 1024
-    rest-few = omega (arith, count-le (λ (x : Bool). x) some, holds, fit .sized, position-few)
+    pub total-few : total ≤ 1024
+    total-few = omega (arith, count-le (λ (x : Bool). x) some, holds, fit .sized, position-few)
 
     module _ (counts ends : List ℕ) (held : CountsHeld (frontier near p) ends counts (length (frontier near p))) where
       board-safe : {joined mined : List ℕ} → CellsTold (frontier near p) (length (frontier near p)) (mineStage near p total (frontier near p) (length (frontier near p))) (replicate 1024 2) joined
