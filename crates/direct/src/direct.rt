@@ -15,7 +15,6 @@ use marks::left::has_negative;
 use marks::left::left_blocks;
 use marks::listing::CellList;
 use marks::marked_in_one;
-use sources::equations::Equations;
 ghost use mathlib.Core.Path.{_≡_};
 ghost use mathlib.Core.Bool.{not};
 ghost use mathlib.Core.List.{[], reverse};
@@ -167,7 +166,7 @@ fn sweep(slots: &[u16; 8192], rests: &[u8; 1024], equations: usize) -> Swept
     }
 }
 
-// Their lists alone.
+// Their lists alone: what solve_direct finds at a position, from its equations, with no block read and none left.
 pub fn swept_cells(slots: &[u16; 8192], rests: &[u8; 1024], equations: usize) -> Lists
     requires { ⌜ Slots (now slots) equations ⌝ }
     ensures { λ r. ⌜ r ≡ sweptLists (equationsFrom (now (slots .entry)) (now (rests .entry)) 0 equations) ⌝ }
@@ -176,16 +175,6 @@ pub fn swept_cells(slots: &[u16; 8192], rests: &[u8; 1024], equations: usize) ->
     let safe = found.safe;
     let mines = found.mines;
     Lists { safe, mines }
-}
-
-// What solve_direct finds at a position, from its equations alone: no block is read, none is left.
-pub fn direct_cells(equations: Equations) -> Lists
-    requires { ⌜ Slots (equations .slots) (equations .len) ⌝ }
-    ensures { λ r. ⌜ r ≡ sweptLists (equationsFrom (equations .slots) (equations .rests) 0 (equations .len)) ⌝ }
-{
-    let slots = equations.slots;
-    let rests = equations.rests;
-    swept_cells(&slots, &rests, equations.len)
 }
 
 // solve_direct on blocks: the two sweeps, refusal 6 where an equation left over is negative, and the blocks left, split anew.

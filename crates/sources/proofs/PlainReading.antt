@@ -17,7 +17,7 @@ use Rattle.blocks.specs.Blocks.{BlockEquation}
 use Rattle.blocks.specs.BlockSets.{slotsOf, slotCells}
 use Rattle.blocks.proofs.Between.{slots-eight}
 use Rattle.sources.specs.Sources.{sources}
-use Rattle.sources.specs.Equations.{plainEquation, plainEquations, equationArrays, restAt}
+use Rattle.sources.specs.Equations.{plainEquation, plainEquations, EquationsHeld, restAt}
 use Rattle.sources.specs.Reading.{Read}
 use Rattle.sources.proofs.SourceLaws.{sourceBelow}
 use Rattle.sources.proofs.ReadSlots.{read-held, all-read}
@@ -57,16 +57,15 @@ module _ (edgeless : Bool) {rows columns : ℕ} {p beside list : List ℕ} {len 
       ∙ ap length (sources-listed edgeless board read)
       ∙ sym (length-map (sources near p) (plainEquation near p))
 
-  -- what is stored is the struct of the equations
+  -- what is stored is the equations
   pub equations-stored : (slots rests : List ℕ) → slots ≡ sets (replicate 8192 65535) (0 * 8) (joined (map (slotsBeside beside) (take len list)))
       → rests ≡ sets (replicate 1024 0) 0 (map (restAt near p) (take len list))
-      → record { slots = slots; rests = rests; len = len } ≡ equationArrays (plainEquations near p)
-  unfolding equationArrays
+      → EquationsHeld (plainEquations near p) slots rests len
   equations-stored slots rests s r =
       let small = plain-small edgeless rows columns p board in
       let few = plain-few edgeless rows columns p board in
-      rw (
-        s ∙ ap (λ (l : List (List ℕ)). sets (replicate 8192 65535) 0 (joined l)) slots-are ∙ slots-stored (plainEquations near p) small few,
-        r ∙ ap (sets (replicate 1024 0) 0) rests-are ∙ rests-stored (plainEquations near p) small few,
-        counted,
-      )
+      record {
+        in-slots = s ∙ ap (λ (l : List (List ℕ)). sets (replicate 8192 65535) 0 (joined l)) slots-are ∙ slots-stored (plainEquations near p) small few;
+        in-rests = r ∙ ap (sets (replicate 1024 0) 0) rests-are ∙ rests-stored (plainEquations near p) small few;
+        many = counted;
+      }

@@ -1,5 +1,6 @@
--- The equations of a position alone, without blocks: one for each source, in reading order, over the closed cells beside it; and the struct that holds
+-- The equations of a position alone, without blocks: one for each source, in reading order, over the closed cells beside it; and the arrays that hold
 -- a list of equations. `near` gives the neighbours of a cell, p is the position. Assumes nothing.
+use mathlib.Core.Path.{_≡_}
 use mathlib.Core.List.{List, map}
 use Prim.Native.Nat.{ℕ, _+_, _-_}
 use lib.ListN.{length}
@@ -9,7 +10,6 @@ use Rattle.fitting.specs.Equations.{isKnownMine}
 use Rattle.blocks.specs.Blocks.{BlockEquation}
 use Rattle.blocks.specs.BlockSets.{slotsOf}
 use Rattle.sources.specs.Sources.{closedBeside, sources}
-use Rattle.sources.specs.declared.equations.Equations.{Equations}
 
 -- the known mines around a cell
 abbrev pub knownBeside : (ℕ → List ℕ) → List ℕ → ℕ → ℕ
@@ -27,10 +27,8 @@ plainEquation near p d = record { cells = closedBeside near p d; rest = restAt n
 abbrev pub plainEquations : (ℕ → List ℕ) → List ℕ → List BlockEquation
 plainEquations near p = map (plainEquation near p) (sources near p)
 
--- the struct that holds equations one after another
-unfoldable pub equationArrays : List BlockEquation → Equations
-equationArrays es = record {
-  slots = pad 8192 65535 (joined (map slotsOf es));
-  rests = pad 1024 0 (map (λ (e : BlockEquation). e .rest) es);
-  len = length es;
-}
+-- equations one after another in two arrays, eight slots and a remainder for each
+pub record EquationsHeld (es : List BlockEquation) (slots rests : List ℕ) (len : ℕ) : Type 0 where
+  pub in-slots : slots ≡ pad 8192 65535 (joined (map slotsOf es))
+  pub in-rests : rests ≡ pad 1024 0 (map (λ (e : BlockEquation). e .rest) es)
+  pub many : len ≡ length es

@@ -7,19 +7,10 @@ use grid::window::count_beside;
 use grid::window::wide;
 ghost use mathlib.Core.Path.{_≡_};
 ghost use Prim.Native.Nat.{_+_, _-_, _*_, _≤_, _<_};
+ghost use lib.ListN.{replicate};
 ghost use Rattle.grid.specs.Cells.{shows};
 ghost use Rattle.grid.specs.Window.{neighbours, Board};
-ghost use Rattle.sources.specs.Equations.{restAt, plainEquations, equationArrays};
-
-// Equations one after another.
-pub struct Equations {
-    // For each equation, eight slots for its cells.
-    pub slots: [u16; 8192],
-    // For each equation, its remainder plus 8.
-    pub rests: [u8; 1024],
-    // How many equations there are.
-    pub len: usize,
-}
+ghost use Rattle.sources.specs.Equations.{restAt, plainEquations, EquationsHeld};
 
 // A number less known mines, plus 8, so that none is below 0.
 fn less_known(number: u8, known: u8) -> u8
@@ -47,20 +38,27 @@ pub fn rest_of(edgeless: bool, rows: usize, columns: usize, position: &[u8], c: 
     less_known(position[c], known as u8)
 }
 
-// The equation of each source: its closed neighbours, and its number less its neighbouring known mines.
-pub fn read_equations(edgeless: bool, rows: usize, columns: usize, position: &[u8]) -> Equations
+// The equation of each source, one after another: its closed neighbours in eight slots, and its number less its neighbouring known mines, plus 8. They are
+// written in the caller's arrays, since a struct of this size costs more to hand on than to fill.
+pub fn read_equations(
+    edgeless: bool,
+    rows: usize,
+    columns: usize,
+    position: &[u8],
+    slots: &mut [u16; 8192],
+    rests: &mut [u8; 1024],
+) -> usize
     requires { ⌜ Board (now position) rows columns ⌝ }
-    ensures { λ r. ⌜ r ≡ equationArrays (plainEquations (neighbours edgeless rows columns) (now (position .entry))) ⌝ }
+    requires { ⌜ (now slots ≡ replicate 8192 65535) × (now rests ≡ replicate 1024 0) ⌝ }
+    ensures { λ r. ⌜ EquationsHeld (plainEquations (neighbours edgeless rows columns) (now (position .entry))) (now (slots .exit)) (now (rests .exit)) r ⌝ }
 {
     let mut beside = [65535u16; 8192];
     let mut sources = [0u16; 1024];
     let len = read_sources(edgeless, rows, columns, position, &mut beside, &mut sources);
-    let mut slots = [65535u16; 8192];
-    let mut rests = [0u8; 1024];
     for i in 0..len {
         let c = wide(sources[i]);
-        put_slots(&mut slots, i, slots_at(&beside, c));
+        put_slots(slots, i, slots_at(&beside, c));
         rests[i] = rest_of(edgeless, rows, columns, position, c);
     }
-    Equations { slots, rests, len }
+    len
 }

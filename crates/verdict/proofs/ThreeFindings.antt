@@ -25,8 +25,7 @@ use Rattle.fitting.specs.Passes.{nothing, orElse}
 use Rattle.blocks.specs.Blocks.{Block}
 use Rattle.blocks.specs.BlockSets.{allCells}
 use Rattle.blocks.specs.Places.{Slots, equationsFrom}
-use Rattle.sources.specs.Equations.{plainEquations, equationArrays}
-use Rattle.sources.specs.declared.equations.Equations.{Equations}
+use Rattle.sources.specs.Equations.{plainEquations, EquationsHeld}
 use Rattle.sources.proofs.EquationArrays.{arrays-slots, arrays-read, plain-small, plain-few}
 use Rattle.frontier.specs.Frontier.{frontier}
 use Rattle.marks.specs.CellLists.{cellList, listIn, Below}
@@ -213,13 +212,11 @@ module _ (edgeless : Bool) (rows columns : ℕ) (p : List ℕ) (board : Board p 
 
   -- ---- the equations as the code reads them
 
-  module _ (equations : Equations) (is : equations ≡ equationArrays (plainEquations (neighbours edgeless rows columns) p)) where
+  module _ (slots rests : List ℕ) (len : ℕ) (held : EquationsHeld (plainEquations (neighbours edgeless rows columns) p) slots rests len) where
     -- are fit for the sweeps
-    pub equations-fit : Slots (equations .slots) (equations .len)
-    unfolding equationArrays
-    equations-fit = rw is (arrays-slots (plainEquations near p) (plain-small edgeless rows columns p board) (plain-few edgeless rows columns p board))
+    pub equations-fit : Slots slots len
+    equations-fit = rw (held .in-slots, held .many) (arrays-slots (plainEquations near p) (plain-small edgeless rows columns p board) (plain-few edgeless rows columns p board))
 
     -- and read as the position's
-    pub equations-read : equationsFrom (equations .slots) (equations .rests) 0 (equations .len) ≡ plainEquations (neighbours edgeless rows columns) p
-    unfolding equationArrays
-    equations-read = rw is (arrays-read (plainEquations near p) (plain-small edgeless rows columns p board) (plain-few edgeless rows columns p board))
+    pub equations-read : equationsFrom slots rests 0 len ≡ plainEquations (neighbours edgeless rows columns) p
+    equations-read = rw (held .in-slots, held .in-rests, held .many) (arrays-read (plainEquations near p) (plain-small edgeless rows columns p board) (plain-few edgeless rows columns p board))

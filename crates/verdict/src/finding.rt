@@ -3,7 +3,7 @@
 use blocks::BlockSet;
 use direct::answer::Lists;
 use direct::answer::lists_of;
-use direct::direct::direct_cells;
+use direct::direct::swept_cells;
 use enumeration::enumerate::enumerate_rule;
 use frontier::read_blocks;
 use marks::listing::CellList;
@@ -75,7 +75,10 @@ pub fn find_cells(edgeless: bool, rows: usize, columns: usize, position: &[u8]) 
     requires { ⌜ ((m : List Bool) × Fits (neighbours edgeless rows columns) (now position) m) ⌝ }
     ensures { λ r. ⌜ Finds (rows * columns) (threeRules (neighbours edgeless rows columns) (now (position .entry))) r ⌝ }
 {
-    let direct = direct_cells(read_equations(edgeless, rows, columns, position));
+    let mut slots = [65535u16; 8192];
+    let mut rests = [0u8; 1024];
+    let len = read_equations(edgeless, rows, columns, position, &mut slots, &mut rests);
+    let direct = swept_cells(&slots, &rests, len);
     if found_cell(direct) {
         return graded(direct, 1);
     }

@@ -25,7 +25,7 @@ use Rattle.sources.proofs.equations.read_equations.Statement.{statement
 use Rattle.sources.proofs.equations.read_equations.Tie as tie
 
 abbrev Inv-loop : tie.InvT-loop
-Inv-loop edgeless rows columns position beside sources len slots₀ rests₀ i₀ slots rests i =
+Inv-loop edgeless rows columns position slots₀ rests₀ beside sources len i₀ slots rests i =
     (i ≤ len)
     × Written (slotsBeside beside) (restAt (neighbours edgeless rows columns) position)
     (sets (replicate 8192 65535) (0 * 8) (joined (map (slotsBeside beside) (take len sources))))
@@ -33,7 +33,7 @@ Inv-loop edgeless rows columns position beside sources len slots₀ rests₀ i�
     (drop i (take len sources)) i slots rests
 
 abbrev μ-loop : tie.MeasureT-loop
-μ-loop edgeless rows columns position beside sources len slots₀ rests₀ i₀ slots rests i = len - i
+μ-loop edgeless rows columns position slots₀ rests₀ beside sources len i₀ slots rests i = len - i
 
 -- ---- what is known where: the function's start, and once the sources are read
 
@@ -42,15 +42,17 @@ start c = c .before .before .before .before
 
 -- the sources listed are cells
 listed : (c : tie.After-read-sources Inv-loop μ-loop) → Cells (c .read-sources .last .1 .1 .1 .1 .1 .0) (c .read-sources .result)
-listed c = listed-cells _ (start c .pre) (c .read-sources .ensures)
+listed c = listed-cells _ (start c .pre .0) (c .read-sources .ensures)
 
 -- ---- the needs
 
 read-sources-requires : tie.Need-read-sources-requires Inv-loop μ-loop
-read-sources-requires c κs = (c .before .before .before .pre, read-none _ _ _ refl)
+read-sources-requires c κs = (c .before .before .before .pre .0, read-none _ _ _ refl)
 
 loop-holds : tie.Need-loop-holds Inv-loop μ-loop
-loop-holds c = (omega arith, written-none _ _ (replicate 8192 65535) (replicate 1024 0) _ 0 refl refl)
+loop-holds c =
+    let s = start c in
+    (omega arith, rw (s .pre .1 .0, s .pre .1 .1) (written-none _ _ (replicate 8192 65535) (replicate 1024 0) _ 0 refl refl))
 
 mul-wide : tie.Need-mul-wide Inv-loop μ-loop
 mul-wide c = let few = listed (c .before .before) .few in omega arith
@@ -69,7 +71,7 @@ open-cell c =
     let s = start read in
     rw (c .wide .ensures)
     (found-open (listed read) (c .before .before .loop .i) (c .before .loop-test .taken) (s .args .rows * s .args .columns) (s .args .position .now)
-    (all-open _ (s .pre) (read .read-sources .ensures) (take (read .read-sources .result) (read .read-sources .last .1 .1 .1 .1 .1 .0)) (all-listed _ (s .pre) (read .read-sources .ensures))))
+    (all-open _ (s .pre .0) (read .read-sources .ensures) (take (read .read-sources .result) (read .read-sources .last .1 .1 .1 .1 .1 .0)) (all-listed _ (s .pre .0) (read .read-sources .ensures))))
 
 slots-at-requires : tie.Need-slots-at-requires Inv-loop μ-loop
 slots-at-requires c κs =
@@ -86,10 +88,13 @@ put-slots-requires c κs =
     (l .inv .1 .slots-long, omega arith, rw (c .slots-at .ensures) (slots-eight (read .read-sources .last .1 .1 .1 .1 .0) (w .wide .result)))
 
 rest-of-requires : tie.Need-rest-of-requires Inv-loop μ-loop
-rest-of-requires c κs = let w = c .before .before .before .before in (start (w .before .before .before) .pre, open-cell w)
+rest-of-requires c κs = let w = c .before .before .before .before in (start (w .before .before .before) .pre .0, open-cell w)
 
-array-write-rests : tie.Need-array-write-rests Inv-loop μ-loop
-array-write-rests c = let few = listed (c .before .before .before .before .before .before .before .before) .few in omega arith
+element-write-rests : tie.Need-element-write-rests Inv-loop μ-loop
+element-write-rests c =
+    let w = c .before .before .before .before .before in
+    let few = listed (w .before .before .before) .few in
+    omega (arith, w .before .before .loop .inv .1 .rests-long)
 
 add-i : tie.Need-add-i Inv-loop μ-loop
 add-i c = search needs
@@ -114,7 +119,7 @@ returns c =
     let l = c .before .loop in
     let read = c .before .before in
     let end = rw (counted-none _ (read .read-sources .result) (l .i) (c .loop-test .left)) at (l .inv .1) in
-    equations-stored _ (start read .pre) (read .read-sources .ensures) (l .slots) (l .rests) (end .slots-left) (end .rests-left)
+    equations-stored _ (start read .pre .0) (read .read-sources .ensures) (l .slots) (l .rests) (end .slots-left) (end .rests-left)
 
 pub read-equations-spec : {M : Type 1} → statement M
 read-equations-spec =
@@ -130,7 +135,7 @@ read-equations-spec =
     slots-at-requires
     put-slots-requires
     rest-of-requires
-    array-write-rests
+    element-write-rests
     add-i
     loop-less
     loop-again

@@ -1,6 +1,6 @@
 -- `finding::find_cells` meets its contract: the equations are read, which are fit for the sweeps; where these find nothing the frontier is read, which is fit
 -- for the other rules; and the first lists with a cell are what the three rules find. Rests on ThreeFindings, on ReadFrontier and on the contracts of the calls. Assumes nothing.
-use mathlib.Core.Path.{_≡_, sym, ap, _∙_}
+use mathlib.Core.Path.{_≡_, refl, sym, ap, _∙_}
 use mathlib.Core.List.{List}
 use borrow.Author.Needs.{needs}
 use Rattle.grid.specs.Window.{neighbours}
@@ -17,19 +17,24 @@ use Rattle.verdict.proofs.finding.find_cells.Statement.{statement}
 use Rattle.verdict.proofs.finding.find_cells.Tie as tie
 
 read-equations-requires : tie.Need-read-equations-requires
-read-equations-requires c κs = c .before .pre .0
+read-equations-requires c κs = (c .before .before .before .pre .0, (refl, refl))
 
-direct-cells-requires : tie.Need-direct-cells-requires
-direct-cells-requires c κs = equations-fit _ _ _ _ (c .before .before .pre .0) _ (c .read-equations .ensures)
+-- from after the sweeps back to the equations, and from there to the beginning
+abbrev read : tie.After-swept-cells → tie.After-read-equations
+read c = c .before .before .before
 
--- from after the sweeps back to the beginning
-abbrev start : tie.After-direct-cells → tie.Start
-start c = c .before .before .before
+abbrev start : tie.After-swept-cells → tie.Start
+start c = read c .before .before .before .before
+
+swept-cells-requires : tie.Need-swept-cells-requires
+swept-cells-requires c κs =
+    let r = c .before .before in
+    equations-fit _ _ _ _ (r .before .before .before .before .pre .0) _ _ _ (r .read-equations .ensures)
 
 -- the sweeps were over the position's equations
-swept : (c : tie.After-direct-cells)
-    → (let a = start c .args in c .direct-cells .result ≡ sweptLists (plainEquations (neighbours (a .edgeless) (a .rows) (a .columns)) (a .position .now)))
-swept c = c .direct-cells .ensures ∙ ap sweptLists (equations-read _ _ _ _ (start c .pre .0) _ (c .before .read-equations .ensures))
+swept : (c : tie.After-swept-cells)
+    → (let a = start c .args in c .swept-cells .result ≡ sweptLists (plainEquations (neighbours (a .edgeless) (a .rows) (a .columns)) (a .position .now)))
+swept c = c .swept-cells .ensures ∙ ap sweptLists (equations-read _ _ _ _ (start c .pre .0) _ _ _ (read c .read-equations .ensures))
 
 found-cell-requires : tie.Need-found-cell-requires
 found-cell-requires c κs = search needs
@@ -72,7 +77,7 @@ find-cells-spec =
     tie.close
     (tie.spec
     read-equations-requires
-    direct-cells-requires
+    swept-cells-requires
     found-cell-requires
     graded-requires
     returns
