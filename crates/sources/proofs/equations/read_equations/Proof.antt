@@ -77,7 +77,7 @@ slots-at-requires : tie.Need-slots-at-requires Inv-loop μ-loop
 slots-at-requires c κs =
     let w = c .before .before in
     let read = w .before .before .before in
-    (read .read-sources .ensures .wide, rw (w .wide .ensures) (found-on-board (listed read) (w .before .before .loop .i) (w .before .loop-test .taken)))
+    (read .read-sources .ensures .wide, omega (arith, listed read .few, w .wide .ensures, found-on-board (listed read) (w .before .before .loop .i) (w .before .loop-test .taken)))
 
 put-slots-requires : tie.Need-put-slots-requires Inv-loop μ-loop
 put-slots-requires c κs =
