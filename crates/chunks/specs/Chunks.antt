@@ -1,5 +1,5 @@
 -- Blocks split anew, in the order of chunk_matrix and chunk_matrixes. Assumes nothing.
-use mathlib.Core.Bool.{Bool, not, cond}
+use mathlib.Core.Bool.{not, cond}
 use mathlib.Core.List.{List, [], _∷_, _++_, map, reverse}
 use Prim.Native.Nat.{ℕ, zero, suc}
 use lib.ListN.{length}

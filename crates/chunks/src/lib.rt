@@ -16,7 +16,7 @@ ghost use mathlib.Core.List.{List, [], _∷_, _++_, map, reverse};
 ghost use Prim.Native.Nat.{ℕ, _+_, _-_, _*_, _≤_, _<_};
 ghost use lib.ListN.{length, getD, take};
 ghost use lib.Seq.{sets};
-ghost use Rattle.lists.specs.Lists.{any, has, keep, empty, joined, pad, addNew};
+ghost use Rattle.lists.specs.Lists.{has, keep, empty, joined, pad, addNew};
 ghost use Rattle.grid.specs.Window.{listed};
 ghost use Rattle.blocks.specs.Blocks.{BlockEquation};
 ghost use Rattle.blocks.specs.BlockSets.{blockSet, blocksOf, slotCells, Whole};

@@ -1,6 +1,6 @@
 -- Rows that bring the mines to an allowed number, and what they give the groups: of two lists of rows, and of rows with a value more before each, whose mines are
 -- then counted with those that were set. Assumes nothing.
-use mathlib.Core.Path.{_≡_, refl, sym, ap, _∙_}
+use mathlib.Core.Path.{_≡_, refl, ap, _∙_}
 use mathlib.Core.Bool.{Bool, true, false, _&&_, _||_}
 use mathlib.Core.List.{List, [], _∷_, _++_, map}
 use Prim.Native.Nat.{ℕ, _+_}

@@ -3,17 +3,17 @@
 -- Tables. Assumes nothing.
 use mathlib.Core.Path.{_≡_, refl, sym, ap, _∙_}
 use mathlib.Core.Bool.{Bool, true, false, _&&_, _||_, or-true, or-false}
-use mathlib.Core.List.{List, _∷_, map}
-use Prim.Native.Nat.{ℕ, _+_, _≤_, _<_}
+use mathlib.Core.List.{List, map}
+use Prim.Native.Nat.{ℕ, _+_, _≤_}
 use native.Mathlib.Omega.{arith}
 use lib.Dec.{ltb, eqb}
-use lib.ListN.{length, getD}
+use lib.ListN.{getD}
 use Rattle.lists.specs.Lists.{all}
 use Rattle.grid.specs.declared.window.UpToEight.{UpToEight}
 use Rattle.blocks.specs.BlockSets.{slotCells}
 use Rattle.search.specs.Solutions.{sum}
 use Rattle.search.specs.Trees.{lowered, possible}
-use Rattle.search.specs.Searching.{Ordered, unset, treeAt, treeFrom}
+use Rattle.search.specs.Searching.{unset, treeAt, treeFrom}
 use Rattle.search.proofs.OrderedGroups.{Group, unset-none, unset-more}
 use Rattle.search.proofs.Branches.{tree-leaf}
 use Rattle.search.proofs.TakenValues.{places, Taken, taken-column}

@@ -2,26 +2,25 @@
 -- that is begun and not finished has its digit in the key, any other needs what it did at first, or nothing. Rests on Keys. Assumes nothing.
 use mathlib.Core.Path.{_≡_, refl, sym, ap, _∙_}
 use mathlib.Core.Logic.{inl, inr}
-use mathlib.Core.Bool.{Bool, true, false, cond, _&&_}
+use mathlib.Core.Bool.{true, cond, _&&_}
 use mathlib.Core.List.{List}
 use Prim.Native.Nat.{ℕ, zero, suc, _+_, _-_, _≤_, _<_}
 use native.Mathlib.Omega.{arith}
-use native.Mathlib.Decide.{decLt, decLe}
-use native.Mathlib.Numerals.{add-one}
-use lib.Dec.{eqb, ltb, leb}
-use lib.ListN.{length, getD}
+use native.Mathlib.Decide.{decLt}
+use lib.Dec.{ltb, leb}
+use lib.ListN.{getD}
 use lib.Seq.{ext-getD}
-use borrow.Author.Tests.{eqb-true, eqb-false, lt-ltb, leb-true}
-use Rattle.lists.specs.Lists.{range, keep, has}
+use borrow.Author.Tests.{lt-ltb, leb-true}
+use Rattle.lists.specs.Lists.{range, has}
 use Rattle.lists.proofs.Tests.{Decided, decided, and-left, and-right}
 use Rattle.lists.proofs.Members.{has-keep, in-range}
 use Rattle.lists.proofs.All.{all-has}
 use Rattle.grid.specs.declared.window.UpToEight.{UpToEight}
 use Rattle.blocks.specs.BlockSets.{slotCells}
-use Rattle.search.specs.Trees.{lowered, possible}
+use Rattle.search.specs.Trees.{lowered}
 use Rattle.search.specs.Searching.{State}
 use Rattle.search.proofs.TreeLaws.{lowered-read}
-use Rattle.search.proofs.Lowering.{takes, lowered-less}
+use Rattle.search.proofs.Lowering.{takes}
 use Rattle.search.proofs.TakenValues.{places, Taken, taken-once, taken-column, taken-state}
 use Rattle.counting.specs.States.{openEquations, keyOf, Course, Underway}
 use Rattle.counting.proofs.Keys.{digits-same}

@@ -3,14 +3,12 @@
 use mathlib.Core.Path.{_≡_, refl, sym, ap, _∙_}
 use mathlib.Core.Bool.{Bool, true, false, cond}
 use mathlib.Core.List.{List, [], _∷_, _++_, map, append-nil}
-use Prim.Native.Nat.{ℕ, suc, _+_, _-_, _≤_}
+use Prim.Native.Nat.{ℕ, suc, _+_, _-_}
 use native.Mathlib.Omega.{arith}
-use native.Mathlib.Numerals.{add-one}
 use lib.ListN.{getD}
 use Rattle.lists.specs.Lists.{range, joined}
 use Rattle.lists.proofs.Kept.{range-push}
 use Rattle.lists.proofs.Joined.{joined-push}
-use Rattle.grid.specs.declared.window.UpToEight.{UpToEight}
 use Rattle.blocks.specs.BlockSets.{slotCells}
 use Rattle.search.specs.Trees.{lowered, possible, tree}
 use Rattle.search.specs.Searching.{unset, treeAt, treeFrom}

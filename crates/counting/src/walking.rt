@@ -15,12 +15,12 @@ use search::raise;
 ghost use mathlib.Core.Path.{_≡_};
 ghost use mathlib.Core.Bool.{true, _&&_};
 ghost use mathlib.Core.List.{map};
-ghost use Prim.Native.Nat.{ℕ, suc, _+_, _-_, _≤_, _<_};
+ghost use Prim.Native.Nat.{ℕ, _+_, _-_, _≤_, _<_};
 ghost use lib.Dec.{eqb, ltb};
 ghost use lib.ListN.{length, getD};
 ghost use Rattle.lists.specs.Lists.{all};
 ghost use Rattle.search.specs.Solutions.{sum};
-ghost use Rattle.search.specs.Searching.{Ordered, State, unset, treeAt, treeFrom};
+ghost use Rattle.search.specs.Searching.{Ordered, unset, treeAt};
 ghost use Rattle.counting.specs.Counting.{Marked, Walked};
 ghost use Rattle.counting.specs.States.{Course, Underway, Right};
 

@@ -17,10 +17,9 @@ use Rattle.lists.proofs.Members.{nodup-append}
 use Rattle.lists.proofs.Rearranged.{nodup-below}
 use Rattle.lists.proofs.All.{all-push, all-has}
 use Rattle.lists.proofs.Arrays.{length-pad, pad-nil, pad-push}
-use Rattle.lists.proofs.Elements.{replicate-all}
 use Rattle.lists.proofs.AddNew.{add-new-there, add-new-push}
 use Rattle.lists.proofs.TurnedRound.{take-back}
-use Rattle.blocks.specs.Places.{marked, Marks}
+use Rattle.blocks.specs.Places.{marked}
 use Rattle.blocks.proofs.MarkLaws.{marks-has, marks-push, marks-none}
 use Rattle.marks.specs.Marked.{Listed}
 use Rattle.marks.specs.CellLists.{cellList}

@@ -2,7 +2,7 @@
 -- those of the equations whose remainder is 0 are safe. What an equation gives does not depend on those before it, so each sweep is said without a
 -- state; the order is that of the sweeps: equations, and the cells of each, from the last to the first, a cell where it is first met. Assumes nothing.
 use mathlib.Core.Bool.{Bool, not, cond, _||_}
-use mathlib.Core.List.{List, [], _∷_, _++_, map, reverse}
+use mathlib.Core.List.{List, [], map, reverse}
 use Prim.Native.Nat.{ℕ, _+_}
 use lib.Dec.{ltb, eqb}
 use lib.ListN.{length}

@@ -1,6 +1,6 @@
 -- What a rule makes of blocks: a contradiction, or its two lists of cells and the blocks that it leaves. Assumes nothing.
 use mathlib.Core.Bool.{Bool, true, false, not}
-use mathlib.Core.List.{List, [], _∷_}
+use mathlib.Core.List.{List, []}
 use Prim.Native.Nat.{ℕ, _-_}
 use Rattle.lists.specs.Lists.{keep, count, has}
 use Rattle.fitting.specs.Passes.{GradedCells}

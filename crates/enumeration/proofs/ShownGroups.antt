@@ -2,30 +2,26 @@
 -- the block's; what is marked of the groups already told stays told; and where all are told, the marks are what `shown` says. Rests on the laws of
 -- the arrays of `grouped` and of marks. Assumes nothing.
 use mathlib.Core.Path.{_≡_, refl, sym, ap, _∙_}
-use mathlib.Core.Logic.{_⊎_, inl, inr}
-use mathlib.Core.Bool.{Bool, true, false, not, cond}
-use mathlib.Core.List.{List, [], _∷_, _++_, map}
+use mathlib.Core.Logic.{inl, inr}
+use mathlib.Core.Bool.{true, false, not, cond}
+use mathlib.Core.List.{List, [], map}
 use Prim.Native.Nat.{ℕ, _+_, _-_, _≤_, _<_}
 use native.Mathlib.Nat.{not-suc-le-zero}
 use native.Mathlib.Omega.{arith}
 use lib.Dec.{ltb, eqb}
 use lib.ListN.{length, getD, take, replicate, length-map}
 use lib.Seq.{length-take-le}
-use borrow.Author.Tests.{eqb-true, eqb-false, ltb-true, lt-ltb, not-true}
-use Rattle.lists.specs.Lists.{range, bit, count, any, all, has, nodup, pad}
-use Rattle.lists.proofs.Tests.{Decided, decided, clash, or-cases, or-left, or-right}
-use Rattle.lists.proofs.Members.{getD-has}
+use borrow.Author.Tests.{eqb-true, eqb-false, lt-ltb, not-true}
+use Rattle.lists.specs.Lists.{range, bit, all, has, nodup, pad}
+use Rattle.lists.proofs.Tests.{Decided, decided, clash}
 use Rattle.lists.proofs.All.{has-all}
-use Rattle.lists.proofs.Counts.{any-of}
-use Rattle.lists.proofs.FirstPlaces.{first-within}
-use Rattle.lists.proofs.Rearranged.{any-count, length-range}
-use Rattle.lists.proofs.Unions.{any-append}
+use Rattle.lists.proofs.Rearranged.{length-range}
 use Rattle.blocks.specs.Blocks.{Block}
 use Rattle.blocks.specs.BlockSets.{slotCells}
 use Rattle.blocks.specs.Places.{Arrays, blockFrom, equationsFrom}
 use Rattle.blocks.specs.declared.Bounds.{Bounds}
 use Rattle.groups.specs.declared.Grouped.{Grouped}
-use Rattle.groups.specs.Groups.{column, alike, addFirsts, firsts, groupOf, sizes}
+use Rattle.groups.specs.Groups.{column, firsts, groupOf, sizes}
 use Rattle.groups.specs.Grouping.{Combinable, grouped}
 use Rattle.groups.proofs.GroupLaws.{group-of-below, size-positive, firsts-some, column-below, column-once}
 use Rattle.search.specs.Solutions.{solutions}
@@ -38,7 +34,6 @@ use Rattle.settling.specs.Settling.{Columns, Settles}
 use Rattle.enumeration.specs.Enumeration.{neverMined, alwaysMined}
 use Rattle.enumeration.specs.Asking.{shown, OverGroups, ShownOnly, Told, SettledTold, Stay}
 use Rattle.enumeration.proofs.NotedMarks.{only-none, only-whole, stay-same, stay-twice}
-use Rattle.lists.proofs.PartedLists.{same-self}
 use Rattle.lists.proofs.StoredAndKept.{all-mapped}
 
 -- ---- the groups of a block

@@ -1,7 +1,7 @@
 -- solve_enumerate on blocks (SPECIFICATION 8.6): a cell that is safe in all solutions of its block, or a mine in all. Lists go by block, then
 -- group, then the group's cells. Refusal 6 where some block has no solution. Assumes nothing.
-use mathlib.Core.Bool.{Bool, cond, _||_}
-use mathlib.Core.List.{List, [], _∷_, map}
+use mathlib.Core.Bool.{Bool, cond}
+use mathlib.Core.List.{List, [], map}
 use Prim.Native.Nat.{ℕ}
 use lib.Dec.{eqb}
 use lib.ListN.{length, getD}

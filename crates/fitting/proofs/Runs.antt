@@ -10,7 +10,7 @@ use lib.ListN.{length, set}
 use Rattle.lists.proofs.Tests.{clash}
 use Rattle.lists.proofs.Elements.{set-all}
 use Rattle.grid.specs.Cells.{cellOf, shows}
-use Rattle.fitting.specs.Layouts.{mineAt, Fits, anyLayout, ForcedAmong}
+use Rattle.fitting.specs.Layouts.{mineAt, Fits, ForcedAmong}
 use Rattle.fitting.specs.Boards.{own, Accepted, AllOpen}
 use Rattle.fitting.specs.Solver.{first}
 use Rattle.fitting.proofs.Layouts.{open-free, fits-marked}

@@ -16,15 +16,14 @@ use Rattle.lists.proofs.Tests.{Decided, decided, clash, or-cases}
 use Rattle.lists.proofs.Members.{has-head, has-tail, has-append}
 use Rattle.lists.proofs.Counts.{count-set}
 use Rattle.grid.specs.Cells.{cellOf, shows}
-use Rattle.fitting.specs.Layouts.{mineAt, Fits, anyLayout, ForcedAmong}
+use Rattle.fitting.specs.Layouts.{mineAt, Fits, ForcedAmong}
 use Rattle.fitting.specs.Boards.{own, Accepted}
 use Rattle.fitting.specs.Solver.{first}
 use Rattle.fitting.specs.Passes.{GradedCells, nothing, flood, openCells, markMines, pass}
-use Rattle.fitting.specs.Rules.{Sound, SoundAmong}
+use Rattle.fitting.specs.Rules.{SoundAmong}
 use Rattle.fitting.proofs.Layouts.{on-board, mine-on-board, fits-marked}
 use Rattle.fitting.proofs.Frontier.{zero-forced}
 use Rattle.fitting.proofs.Own.{own-safe, fit-length, fit-on, first-own, own-opened, before-opened, before-marked}
-use Rattle.fitting.proofs.Rules.{sound-among}
 use Rattle.fitting.proofs.Runs.{Run, start, opens, mine, run-join, run-own, run-back}
 
 -- the position in which the passes begin: the start is opened, with its flood

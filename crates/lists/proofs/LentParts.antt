@@ -1,7 +1,7 @@
 -- The part of a list from place a on, as it is lent, and the list once the part has come back: what stood before it stands there still, and behind that stands what came back;
 -- what was written at its front, said of the whole. Assumes nothing.
 use mathlib.Core.Path.{_≡_, sym, ap, _∙_}
-use mathlib.Core.List.{List, [], _++_, append-nil, append-assoc}
+use mathlib.Core.List.{List, _++_, append-nil, append-assoc}
 use Prim.Native.Nat.{ℕ, _+_, _-_, _≤_}
 use native.Mathlib.Nat.{zero-add}
 use native.Mathlib.Omega.{arith}

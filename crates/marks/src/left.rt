@@ -12,7 +12,6 @@ use blocks::slots_at;
 use grid::window::UpToEight;
 use grid::window::wide;
 ghost use mathlib.Core.Path.{_≡_};
-ghost use mathlib.Core.Bool.{_||_};
 ghost use mathlib.Core.List.{_++_, map};
 ghost use Prim.Native.Nat.{ℕ, _+_, _-_, _*_, _≤_, _<_};
 ghost use lib.Dec.{eqb, ltb};
@@ -21,9 +20,9 @@ ghost use lib.Seq.{sets};
 ghost use Rattle.lists.specs.Lists.{range, keep, count, any, joined};
 ghost use Rattle.grid.specs.Window.{listed};
 ghost use Rattle.blocks.specs.Blocks.{BlockEquation};
-ghost use Rattle.blocks.specs.BlockSets.{blockSet, blocksOf, slotsOf, slotCells, Whole};
+ghost use Rattle.blocks.specs.BlockSets.{blockSet, blocksOf, slotsOf, Whole};
 ghost use Rattle.blocks.specs.Places.{marked, OnBoard, Slots, Arrays, Room, equationsFrom, blockFrom};
-ghost use Rattle.marks.specs.Marked.{stays, leftEquation, leftEquations, leftBlock, leftBlocks};
+ghost use Rattle.marks.specs.Marked.{stays, leftEquations, leftBlock, leftBlocks};
 
 // The cells of a list that are not known.
 fn left_list(list: UpToEight, known: &[u8; 1024]) -> UpToEight

@@ -2,12 +2,10 @@
 use blocks::begin_at;
 use grid::window::wide;
 ghost use mathlib.Core.Path.{_≡_};
-ghost use Prim.Native.Nat.{ℕ, _+_, _≤_};
-ghost use lib.Dec.{eqb};
-ghost use lib.ListN.{length, getD, take};
+ghost use Prim.Native.Nat.{_+_, _≤_};
+ghost use lib.ListN.{length, take};
 ghost use lib.Seq.{sets};
-ghost use Rattle.lists.specs.Lists.{keep};
-ghost use Rattle.blocks.specs.Places.{Cells, cellsFrom};
+ghost use Rattle.blocks.specs.Places.{Cells};
 ghost use Rattle.marks.specs.Marked.{cellsWith, Parts, allWith};
 ghost use Rattle.marks.specs.CellLists.{cellList, Appended};
 

@@ -1,14 +1,12 @@
 -- A part of the input answered, and then what it left: together they answer the part as a whole. So a loop that answers line after line answers all that it comes to. Assumes
 -- nothing.
-use mathlib.Core.Path.{_≡_, refl, sym, ap, _∙_}
+use mathlib.Core.Path.{_≡_, sym, ap, _∙_}
 use mathlib.Core.Bool.{Bool, true, cond}
 use mathlib.Core.List.{List, [], _++_, append-assoc}
-use Prim.Native.Nat.{ℕ, _+_, _≤_}
+use Prim.Native.Nat.{ℕ, _+_}
 use native.Mathlib.Omega.{arith}
-use lib.ListN.{length, take, drop, length-append, length-drop, length-take}
+use lib.ListN.{length, take, drop, length-append, length-drop}
 use lib.Seq.{length-take-le, take-append-add, drop-drop}
-use Rattle.run.specs.declared.Tally.{Tally}
-use Rattle.run.specs.declared.RunState.{RunState}
 use Rattle.run.specs.declared.Part.{Part}
 use Rattle.run.specs.Run.{verdicts, textFrom, tally, noTally, tallySum}
 use Rattle.run.specs.Parts.{goesOn, Follows, Answers}

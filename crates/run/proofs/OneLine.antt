@@ -1,17 +1,15 @@
 -- What a step that answers one line comes to: nothing is done, the header is written, the input has ended, a damaged record is the last, or a whole record is judged. Each way is a
 -- law: the step's part answers the input, and it is a `Step`. Rests on the laws of verdicts and of texts. Assumes nothing.
 use mathlib.Core.Path.{_≡_, refl, sym, ap, _∙_}
-use mathlib.Core.Bool.{Bool, true, false, cond}
+use mathlib.Core.Bool.{Bool, true, false}
 use mathlib.Core.List.{List, [], _∷_, _++_, append-nil}
-use Prim.Native.Nat.{ℕ, _+_, _*_, _≤_, _<_}
+use Prim.Native.Nat.{ℕ, _+_, _≤_, _<_}
 use native.Mathlib.Omega.{arith}
-use lib.ListN.{length, take, drop}
+use lib.ListN.{length, drop}
 use Rattle.refusals.specs.declared.Refusal.{Refusal}
-use Rattle.refusals.specs.declared.Refusal.the-variants.{Mark, Short}
 use Rattle.verdict.specs.declared.Verdict.{Verdict}
 use Rattle.verdict.specs.declared.Verdict.the-variants.{Refused}
 use Rattle.records.specs.declared.BoardMark.{BoardMark}
-use Rattle.records.specs.declared.Record.{Record}
 use Rattle.records.specs.declared.Record.the-variants.{End, Damaged, Whole}
 use Rattle.records.specs.Records.{recordLength, recordOf, cellsIn}
 use Rattle.record_lines.specs.Answers.{boardVerdict, lineText}
@@ -23,13 +21,13 @@ use Rattle.run.specs.declared.RunState.{RunState}
 use Rattle.run.specs.declared.RunState.the-variants.{GoesOn, Complete, Stopped}
 use Rattle.run.specs.declared.Tally.{Tally}
 use Rattle.run.specs.declared.Part.{Part}
-use Rattle.run.specs.Run.{header, verdicts, textFrom, tallyOf, noTally, tallySum, tally}
-use Rattle.run.specs.Parts.{goesOn, Follows, Answers}
+use Rattle.run.specs.Run.{header, verdicts, textFrom, tallyOf, noTally, tally}
+use Rattle.run.specs.Parts.{Follows, Answers}
 use Rattle.run.specs.declared.Next.the-variants.{Ended, Damage, Board}
 use Rattle.run.specs.Steps.{nextOf, nothingYet, headerPart, linePart, AtFront, Few, Step}
 use Rattle.run.proofs.Verdicts.{verdicts-whole, verdicts-end}
 use Rattle.run.proofs.Fronts.{ended-nothing, damage-last, board-judged}
-use Rattle.run.proofs.Texts.{text-header, text-line, text-none, line-some, tally-left, tally-right, tally-one}
+use Rattle.run.proofs.Texts.{text-header, text-line, text-none, line-some, tally-left, tally-one}
 
 -- ---- a line in a buffer that has room for the longest
 

@@ -7,8 +7,7 @@ use Prim.Native.Nat.{ℕ, _+_}
 use native.Mathlib.Omega.{arith}
 use lib.ListN.{length, getD, drop-of-length-le}
 use Rattle.verdict.specs.declared.Verdict.{Verdict}
-use Rattle.records.specs.declared.Record.the-variants.{Whole}
-use Rattle.records.specs.Records.{recordLength, knownMark, recordOf, cellsIn}
+use Rattle.records.specs.Records.{recordLength, knownMark, cellsIn}
 use Rattle.record_lines.specs.Answers.{boardVerdict, lineText}
 use Rattle.records.proofs.RecordKinds.{markOf, six-or-more, record-whole}
 use Rattle.run.specs.Run.{verdicts, lines}

@@ -1,12 +1,12 @@
 -- However the input is cut: a program reads some bytes, has them answered together with those that it kept, writes what it is told, and keeps what was not read. Where the run has come
 -- to its end, all that it wrote is the text of the whole input. From the contract of `answer_part` alone. Assumes nothing.
-use mathlib.Core.Path.{_≡_, refl, sym, ap, _∙_}
+use mathlib.Core.Path.{_≡_, sym, ap, _∙_}
 use mathlib.Core.Bool.{Bool, true, false}
 use mathlib.Core.List.{List, [], _++_, append-assoc, append-nil}
 use Prim.Native.Nat.{ℕ}
 use lib.ListN.{take, drop}
 use Rattle.run.specs.declared.Part.{Part}
-use Rattle.run.specs.Run.{verdicts, textFrom, printed, tally, tallySum}
+use Rattle.run.specs.Run.{verdicts, textFrom, printed}
 use Rattle.run.specs.Parts.{goesOn, Follows, Answers}
 
 -- the turns of a program that holds the bytes `held` before line `number`, while the bytes `coming` are still to be read, and that writes the text `written` until its run ends

@@ -16,7 +16,7 @@ use Rattle.verdict.specs.Verdict.{verdictNumber, verdictYes}
 use Rattle.text.specs.Text.{decimal}
 use Rattle.record_lines.specs.Answers.{verdictText, lineText}
 use Rattle.run.specs.declared.Tally.{Tally}
-use Rattle.run.specs.Run.{header, lines, textFrom, tallyOf, noTally, tallySum, tally}
+use Rattle.run.specs.Run.{header, lines, textFrom, tallyOf, noTally, tallySum}
 
 -- ---- texts
 

@@ -14,11 +14,10 @@ use Rattle.records.specs.Records.{recordLength, recordOf, cellsIn}
 use Rattle.record_lines.specs.Answers.{boardVerdict, lineText}
 use Rattle.run.specs.declared.RunState.{RunState}
 use Rattle.run.specs.declared.RunState.the-variants.{GoesOn}
-use Rattle.run.specs.declared.Tally.{Tally}
 use Rattle.run.specs.declared.Part.{Part}
 use Rattle.run.specs.declared.Next.{Next}
 use Rattle.run.specs.declared.Next.the-variants.{Waits, Ended, Damage, Board}
-use Rattle.run.specs.Run.{header, tallyOf, noTally, tallySum}
+use Rattle.run.specs.Run.{tallyOf, noTally, tallySum}
 use Rattle.run.specs.Parts.{goesOn}
 
 -- ---- what stands at the front

@@ -1,6 +1,6 @@
 -- The rows of a tree in which the first group is held at some values: each begins with one of them, and a row that begins with one of others is among theirs. So the
 -- rows of the whole tree that begin with the values held are those of the tree held at them. Rests on the steps of the tree. Assumes nothing.
-use mathlib.Core.Path.{_≡_, refl, sym, ap, _∙_}
+use mathlib.Core.Path.{_≡_, refl, sym, ap}
 use mathlib.Core.Bool.{Bool, true, false, cond}
 use mathlib.Core.List.{List, [], _∷_, map, List·Memᴰ, List·Memᴰ·not-nil, Memᴰ·map, Memᴰ·of-map}
 use Prim.Native.Nat.{ℕ, suc, _+_, _-_, _≤_, _<_}
@@ -12,7 +12,7 @@ use Rattle.lists.proofs.Unions.{joined-mem, mem-joined, mem-has, has-mem}
 use Rattle.blocks.specs.BlockSets.{slotCells}
 use Rattle.search.specs.Trees.{lowered, possible, branches, tree}
 use Rattle.search.specs.Searching.{unset, treeAt, treeFrom}
-use Rattle.search.proofs.OrderedGroups.{Group, group-below}
+use Rattle.search.proofs.OrderedGroups.{Group}
 use Rattle.search.proofs.Branches.{tree-values}
 
 -- a row begins with one of k values from v up, and is among the rows of any values that have its first

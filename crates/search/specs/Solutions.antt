@@ -1,9 +1,9 @@
 -- The solutions of a block and the solution table (SPECIFICATION 11): a solution gives each group a number of mines from 0 to its size with which each equation
 -- has its remainder. The table lists every solution once, groups first met in later equations weighing more, and within one equation the earlier group.
 -- Assumes nothing.
-use mathlib.Core.Bool.{Bool, cond, _&&_}
-use mathlib.Core.List.{List, [], _∷_, _++_, map, reverse}
-use Prim.Native.Nat.{ℕ, zero, suc, _+_}
+use mathlib.Core.Bool.{Bool}
+use mathlib.Core.List.{List, [], _∷_, map, reverse}
+use Prim.Native.Nat.{ℕ, suc, _+_}
 use lib.Dec.{eqb}
 use lib.ListN.{length, getD}
 use Rattle.lists.specs.Lists.{range, keep, all, joined, firstPlace}

@@ -1,7 +1,6 @@
 -- The values that the equations of a list leave a group (`Leaves`), equation by equation: one more equation leaves no more than it needs, and no fewer than make
 -- its other cells do for the rest. Rests on what an equation can take. Assumes nothing.
 use mathlib.Core.Path.{_≡_, refl, sym, ap, _∙_}
-use mathlib.Core.Bool.{true}
 use mathlib.Core.List.{List, [], _∷_, _++_}
 use Prim.Native.Nat.{ℕ, _+_, _-_, _≤_, _<_}
 use native.Mathlib.Numerals.{add-one}

@@ -1,6 +1,6 @@
 -- The two lists of the subtraction rule alone, as the code puts them together: its own (`Subtracts`), and behind them what the sweeps find in all that is left
 -- of the equations, which are written into fresh arrays. Rests on the laws of equations in arrays and of all that subtraction leaves. Assumes nothing.
-use mathlib.Core.Path.{_≡_, sym, ap, _∙_}
+use mathlib.Core.Path.{_≡_, ap, _∙_}
 use mathlib.Core.Bool.{true}
 use mathlib.Core.List.{List, map}
 use Prim.Native.Nat.{ℕ, _+_, _-_, _*_, _≤_}
@@ -10,7 +10,7 @@ use lib.Seq.{sets}
 use Rattle.lists.specs.Lists.{range, all, joined}
 use Rattle.lists.proofs.Rearranged.{length-range}
 use Rattle.blocks.specs.Blocks.{BlockEquation, Block}
-use Rattle.blocks.specs.BlockSets.{slotsOf, slotCells, beginAt, blocksOf, smallEquation, Whole}
+use Rattle.blocks.specs.BlockSets.{slotsOf, beginAt, blocksOf, smallEquation, Whole}
 use Rattle.blocks.specs.Places.{Slots, equationsFrom}
 use Rattle.blocks.specs.declared.BlockSet.{BlockSet}
 use Rattle.blocks.proofs.Slots.{allSlots}

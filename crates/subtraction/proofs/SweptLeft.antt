@@ -3,19 +3,19 @@
 -- lists. Where the direct rule meets no contradiction the two together are the rule's lists. Rests on AllBlocks and ReadyBlocks. Assumes nothing.
 use mathlib.Core.Path.{_≡_, refl, sym, ap, _∙_}
 use mathlib.Core.Logic.{inl, inr}
-use mathlib.Core.Bool.{Bool, true, false, not, cond}
+use mathlib.Core.Bool.{Bool, true, false, cond}
 use mathlib.Core.List.{List, [], _∷_, _++_, map, reverse, List·Memᴰ}
 use Prim.Native.Nat.{ℕ, _+_, _≤_}
 use native.Mathlib.Omega.{arith}
 use lib.ListN.{length, length-append}
 use borrow.Author.Tests.{not-false}
-use Rattle.lists.specs.Lists.{keep, empty, has, joined, nodup}
+use Rattle.lists.specs.Lists.{keep, empty, has, joined}
 use Rattle.lists.proofs.Tests.{Decided, decided, clash}
 use Rattle.lists.proofs.Members.{has-head}
 use Rattle.lists.proofs.Occurrences.{empty-nil, reverse-in}
 use Rattle.lists.proofs.TurnedRound.{keep-reverse, map-agree, joined-keep}
 use Rattle.lists.proofs.Among.{Among, among-length}
-use Rattle.blocks.specs.Blocks.{BlockEquation, Block}
+use Rattle.blocks.specs.Blocks.{Block}
 use Rattle.blocks.specs.BlockSets.{allCells, Small}
 use Rattle.marks.specs.Marked.{Ready}
 use Rattle.direct.specs.Direct.{sureMines, sureSafe, fromLast, direct}

@@ -6,12 +6,12 @@ use mathlib.Core.Bool.{Bool, true, false, not, _&&_}
 use mathlib.Core.List.{List, [], _∷_, _++_, map, List·Memᴰ, map-append, map-map}
 use Prim.Native.Nat.{ℕ, suc, _+_, _-_, _≤_, _<_}
 use native.Mathlib.Omega.{arith}
-use lib.Dec.{leb, ltb, eqb}
-use lib.ListN.{length, getD, take, drop, replicate, getD-replicate, length-drop}
+use lib.Dec.{ltb, eqb}
+use lib.ListN.{length, getD, take, drop, getD-replicate, length-drop}
 use lib.Seq.{take-length}
-use borrow.Author.Tests.{eqb-true, eq-eqb, ne-eqb, leb-true}
+use borrow.Author.Tests.{eq-eqb}
 use Rattle.lists.specs.Lists.{range, keep, any, has, without}
-use Rattle.lists.proofs.Tests.{Decided, decided, clash, and-left, and-right, same-test}
+use Rattle.lists.proofs.Tests.{Decided, decided}
 use Rattle.lists.proofs.Members.{range-in, has-head, has-tail, without-gone, kept-has}
 use Rattle.lists.proofs.PlacesAndRanges.{range-append}
 use Rattle.lists.proofs.Kept.{keep-append}
@@ -19,11 +19,10 @@ use Rattle.lists.proofs.Joined.{read-range, read-all}
 use Rattle.lists.proofs.Occurrences.{any-agree, in-any}
 use Rattle.blocks.specs.Blocks.{Block}
 use Rattle.blocks.proofs.ProperBlocks.{Proper}
-use Rattle.frontier.specs.Frontier.{frontier, insideCells}
 use Rattle.groups.specs.Groups.{sizes}
 use Rattle.search.specs.Solutions.{sum, solutions}
-use Rattle.totals.specs.Totals.{possibleCount, upTo, sumsTo, minesLeft, othersThan, allowedCount, someMine, someFree}
-use Rattle.totals.specs.Joining.{countsAt, countsBut, SumsAre}
+use Rattle.totals.specs.Totals.{possibleCount, upTo, sumsTo, othersThan, allowedCount, someMine, someFree}
+use Rattle.totals.specs.Joining.{countsAt, countsBut}
 use Rattle.totals.proofs.BlockCounts.{possible-at-most}
 use Rattle.total_rule.specs.Blocks.{blockThere, countAllowed, mineAllowed, freeAllowed, anyCount, CountsHeld}
 

@@ -3,15 +3,15 @@
 use mathlib.Core.Path.{_≡_, refl, sym, ap, _∙_}
 use mathlib.Core.Logic.{inl, inr}
 use mathlib.Core.Bool.{Bool, true, false, cond, _&&_}
-use mathlib.Core.List.{List, [], _∷_, map, List·Memᴰ}
-use Prim.Native.Nat.{ℕ, suc, _+_, _-_, _*_, _≤_, _<_}
+use mathlib.Core.List.{List, [], _∷_, List·Memᴰ}
+use Prim.Native.Nat.{ℕ, _+_, _-_, _*_, _≤_, _<_}
 use native.Mathlib.Omega.{arith}
-use native.Mathlib.Decide.{decLt, decLe}
+use native.Mathlib.Decide.{decLt}
 use lib.Dec.{leb, ltb, eqb}
 use lib.ListN.{length, getD, length-map}
-use borrow.Author.Tests.{eqb-true, eqb-false, lt-ltb, le-ltb, leb-true, leb-false}
+use borrow.Author.Tests.{eqb-true, eqb-false, lt-ltb, le-ltb}
 use Rattle.lists.specs.Lists.{range, bit, nodup}
-use Rattle.lists.proofs.Tests.{Decided, decided, and-left, and-right, bit-is-one}
+use Rattle.lists.proofs.Tests.{Decided, decided, bit-is-one}
 use Rattle.lists.proofs.Unions.{mem-at}
 use Rattle.lists.proofs.Rearranged.{length-range}
 use Rattle.blocks.specs.Blocks.{Block}
@@ -25,8 +25,8 @@ use Rattle.blocks.proofs.ProperBlocks.{Proper}
 use Rattle.groups.specs.Grouping.{Combinable}
 use Rattle.groups.proofs.GroupLaws.{combinable-proper}
 use Rattle.frontier.specs.Frontier.{frontier, insideCells}
-use Rattle.totals.specs.Totals.{possibleCount, upTo, sumsTo, minesLeft, othersThan, allowedCount, someMine, someFree}
-use Rattle.totals.specs.Joining.{setAt, countsAt, countsBut, EndsInOrder, SumsAre}
+use Rattle.totals.specs.Totals.{possibleCount, upTo, sumsTo, minesLeft, allowedCount, someMine, someFree}
+use Rattle.totals.specs.Joining.{countsAt, countsBut, EndsInOrder, SumsAre}
 use Rattle.totals.proofs.BlockCounts.{possible-at-most}
 use Rattle.total_rule.specs.Cells.{Copied}
 use Rattle.total_rule.specs.Blocks.{blockThere, countAllowed, mineAllowed, freeAllowed, anyCount, TableBelow, ToldBlock, CountsHeld, CellsTold, mineShown, freeShown, mineStage, freeStage}

@@ -3,15 +3,14 @@
 use mathlib.Core.Path.{_≡_, refl, sym, ap, _∙_}
 use mathlib.Core.Logic.{_⊎_, inl, inr, _↔_}
 use mathlib.Core.Bool.{Bool, true, false, not, cond, _&&_}
-use mathlib.Core.List.{List, [], _∷_, _++_, map}
-use Prim.Native.Nat.{ℕ, zero, suc, _+_, _-_, _≤_, _<_}
+use mathlib.Core.List.{List, [], _∷_}
+use Prim.Native.Nat.{ℕ, suc, _-_, _≤_, _<_}
 use native.Mathlib.Omega.{arith}
-use native.Mathlib.Nat.{not-suc-le-zero}
 use lib.Dec.{leb, ltb, eqb}
 use lib.ListN.{length, getD}
 use borrow.Author.Tests.{eqb-true, eq-eqb, lt-ltb, ltb-true, ltb-false, le-leb, not-true}
 use Rattle.lists.specs.Lists.{range, keep, bit, count, has, nodup}
-use Rattle.lists.proofs.Tests.{Decided, decided, clash, same-test, and-left, and-right, or-cases, bit-is-zero}
+use Rattle.lists.proofs.Tests.{Decided, decided, clash, same-test, or-cases, bit-is-zero}
 use Rattle.lists.proofs.Members.{has-append}
 use Rattle.lists.proofs.Occurrences.{keep-agree}
 use Rattle.grid.specs.Cells.{shows}
@@ -25,13 +24,12 @@ use Rattle.blocks.specs.Blocks.{Block}
 use Rattle.blocks.specs.BlockSets.{allCells}
 use Rattle.groups.specs.Groups.{groupOf}
 use Rattle.frontier.specs.Frontier.{frontier, insideCells, knownMines}
-use Rattle.totals.specs.Totals.{possibleCount, upTo, sumsTo, isInside, minesLeft, someMine, someFree, insideMine, insideFree}
+use Rattle.totals.specs.Totals.{upTo, sumsTo, isInside, minesLeft, someMine, someFree, insideMine, insideFree}
 use Rattle.totals.specs.Joining.{countsBut}
 use Rattle.totals.proofs.InsideCells.{known-at-most, inside-listed, inside-length, insideList, closed-cell, inside-not-frontier}
 use Rattle.totals.proofs.Totals.{LayoutOfTotal, block-mine, block-free, inside-mine, inside-free}
 use Rattle.total_rule.specs.Cells.{Filled}
 use Rattle.total_rule.specs.Blocks.{blockThere, CountsHeld, CellsTold, mineStage, freeStage}
-use Rattle.total_rule.proofs.ToldBlocks.{there-all}
 use Rattle.total_rule.proofs.AllowedRows.{sums-all}
 
 -- a list with a number in it is not empty

@@ -1,6 +1,6 @@
 -- The fourth rule on a board of rows and columns: what is known of the blocks that are read, how small the numbers are, and what the lists are that the three steps
 -- leave. Rests on FoundByTotal and on what is known of the neighbours. Assumes nothing.
-use mathlib.Core.Path.{_≡_, refl, sym, ap, _∙_}
+use mathlib.Core.Path.{_≡_, ap, _∙_}
 use mathlib.Core.Bool.{Bool, true, _&&_}
 use mathlib.Core.List.{List, _∷_}
 use Prim.Native.Nat.{ℕ, _-_, _*_, _≤_, _<_}
@@ -26,7 +26,7 @@ use Rattle.frontier.proofs.ReadFrontier.{read-frontier, read-whole}
 use Rattle.blocks.proofs.Behind.{blocks-held}
 use Rattle.totals.specs.Totals.{upTo, sumsTo, isInside, minesLeft}
 use Rattle.totals.specs.Joining.{countsBut}
-use Rattle.totals.proofs.InsideCells.{known-at-most, insideList, inside-length}
+use Rattle.totals.proofs.InsideCells.{known-at-most, inside-length}
 use Rattle.total_rule.specs.Cells.{Filled}
 use Rattle.total_rule.specs.Blocks.{TableBelow, CountsHeld, CellsTold, mineShown, freeShown, mineStage, freeStage}
 use Rattle.total_rule.proofs.CountedBlocks.{Stages}

@@ -1,20 +1,20 @@
 -- The cells of blocks told, block after block: what is told of a block's cells by their groups is so of them; blocks share no cell, so telling one leaves the others as
 -- they were; and the possible counts of the blocks stand one after another. Assumes nothing.
 use mathlib.Core.Path.{_≡_, refl, sym, ap, _∙_}
-use mathlib.Core.Logic.{_⊎_, inl, inr}
+use mathlib.Core.Logic.{inl, inr}
 use mathlib.Core.Bool.{Bool, true, false, cond, _&&_}
-use mathlib.Core.List.{List, [], _∷_, _++_, map, List·Memᴰ}
+use mathlib.Core.List.{List, [], _∷_, _++_, map}
 use Prim.Native.Nat.{ℕ, zero, suc, _+_, _-_, _≤_, _<_}
 use native.Mathlib.Omega.{arith}
 use native.Mathlib.Nat.{zero-add, not-suc-le-zero, le-of-suc-le-suc}
 use native.Mathlib.Decide.{decLt, decLe}
-use lib.Dec.{leb, ltb, eqb}
+use lib.Dec.{ltb, eqb}
 use lib.ListN.{length, getD, length-map, List·getD-eq-default}
 use borrow.Author.Tests.{eqb-true, eqb-false, lt-ltb, le-ltb, le-leb, lt-leb}
-use Rattle.lists.specs.Lists.{range, bit, any, all, has, nodup}
-use Rattle.lists.proofs.Tests.{Decided, decided, clash, and-left, and-right, bit-is-one}
+use Rattle.lists.specs.Lists.{range, bit, has, nodup}
+use Rattle.lists.proofs.Tests.{Decided, decided, clash}
 use Rattle.lists.proofs.Unions.{has-joined-map, mem-at}
-use Rattle.lists.proofs.Occurrences.{any-in, in-any}
+use Rattle.lists.proofs.Occurrences.{in-any}
 use Rattle.lists.proofs.Among.{among-nodup, among-right}
 use Rattle.lists.proofs.TurnedRound.{nodup-apart}
 use Rattle.lists.proofs.ReadBack.{range-made}

@@ -3,20 +3,20 @@
 use mathlib.Core.Path.{_≡_, refl, sym, ap, _∙_}
 use mathlib.Core.Logic.{inl, inr}
 use mathlib.Core.Bool.{Bool, true, false, cond, _&&_, _||_, or-false}
-use mathlib.Core.List.{List, [], _∷_, _++_, map, append-nil, map-append}
+use mathlib.Core.List.{List, [], _∷_, _++_, map, map-append}
 use Prim.Native.Nat.{ℕ, suc, _+_, _-_, _≤_, _<_}
 use native.Mathlib.Omega.{arith}
-use native.Mathlib.Decide.{decLt, decLe}
+use native.Mathlib.Decide.{decLt}
 use lib.Dec.{leb, ltb, eqb}
 use lib.ListN.{length, getD, set, length-set, length-append, List·getD-eq-default}
 use lib.Seq.{getD-set-same, getD-set-other}
-use borrow.Author.Tests.{eqb-true, eqb-false, eq-eqb, ne-eqb, le-leb, lt-leb, lt-ltb, le-ltb}
+use borrow.Author.Tests.{eqb-true, eqb-false, le-leb, lt-leb, lt-ltb, le-ltb}
 use Rattle.lists.specs.Lists.{range, bit, keep, has, pad}
 use Rattle.lists.proofs.Tests.{Decided, decided}
 use Rattle.lists.proofs.Elements.{getD-any}
 use Rattle.fitting.specs.Equations.{isClosed}
 use Rattle.lists.proofs.Members.{has-append, range-last}
-use Rattle.lists.proofs.Arrays.{pad-nil, pad-push}
+use Rattle.lists.proofs.Arrays.{pad-push}
 use Rattle.lists.proofs.Kept.{keep-range-push, keep-range-pass}
 use Rattle.lists.proofs.Collected.{keep-few}
 use Rattle.lists.proofs.Rearranged.{length-range}

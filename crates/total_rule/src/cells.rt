@@ -3,11 +3,11 @@
 use grid::window::wide;
 use marks::listing::CellList;
 ghost use mathlib.Core.Path.{_≡_};
-ghost use mathlib.Core.Bool.{cond, _&&_};
+ghost use mathlib.Core.Bool.{_&&_};
 ghost use Prim.Native.Nat.{ℕ, _+_, _≤_, _<_};
 ghost use lib.Dec.{eqb};
 ghost use lib.ListN.{length, getD};
-ghost use Rattle.lists.specs.Lists.{range, keep, has};
+ghost use Rattle.lists.specs.Lists.{range, keep};
 ghost use Rattle.blocks.specs.Places.{Cells, cellsFrom};
 ghost use Rattle.fitting.specs.Equations.{isClosed};
 ghost use Rattle.marks.specs.CellLists.{cellList};

@@ -1,21 +1,21 @@
 -- What a pass finds where the board shows its mine total: the three rules' cells, and where they find nothing those of the total, as the struct has them.
 -- Rests on FoundCells and on the rules tried one after another. Assumes nothing.
-use mathlib.Core.Path.{_≡_, refl, sym, ap, _∙_}
+use mathlib.Core.Path.{_≡_, refl, ap}
 use mathlib.Core.Bool.{Bool, true, false, _&&_}
 use mathlib.Core.List.{List}
-use Prim.Native.Nat.{ℕ, _+_, _≤_, _<_}
+use Prim.Native.Nat.{ℕ, _≤_}
 use native.Mathlib.Omega.{arith}
 use lib.Dec.{ltb}
 use lib.ListN.{length}
 use borrow.Author.Tests.{lt-ltb}
-use Rattle.lists.specs.Lists.{range, keep, all, has}
+use Rattle.lists.specs.Lists.{range, keep, has}
 use Rattle.lists.proofs.Members.{range-in, kept-has}
 use Rattle.lists.proofs.All.{has-all}
 use Rattle.lists.proofs.Collected.{keep-few}
 use Rattle.lists.proofs.Rearranged.{length-range}
 use Rattle.fitting.specs.Layouts.{ofTotal, freeInEvery}
 use Rattle.fitting.specs.Equations.{isClosed}
-use Rattle.fitting.specs.Passes.{GradedCells, nothing, orElse}
+use Rattle.fitting.specs.Passes.{nothing, orElse}
 use Rattle.fitting.specs.ForcedCells.{minedInEvery, forcedCells}
 use Rattle.enumeration.specs.ThreeRules.{threeRules}
 use Rattle.marks.specs.CellLists.{cellList, listIn, Below}

@@ -104,8 +104,8 @@ fn find_with_total(
     graded(find_by_total(edgeless, rows, columns, position, total), 5)
 }
 
-// What a pass finds, where the board shows its mine total or not. A plain board's cells go to the pass as `find_cells` has them: to hand them on through the
-// function that knows a total copied them once more.
+// What a pass finds, where the board shows its mine total or not. A plain board's cells go to the pass as `find_cells` has them; handed on through the function
+// that knows a total they would be copied once more.
 pub fn find_in_pass(
     edgeless: bool,
     rows: usize,

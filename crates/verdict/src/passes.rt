@@ -10,7 +10,7 @@ ghost use mathlib.Core.List.{[], _∷_};
 ghost use Rattle.grid.specs.Cells.{cellOf};
 ghost use Rattle.grid.specs.Window.{neighbours, Board};
 ghost use mathlib.Core.Logic.{_≢_};
-ghost use Prim.Native.Nat.{_*_, _≤_, _<_, max};
+ghost use Prim.Native.Nat.{_*_, _<_, max};
 ghost use lib.ListN.{length, replicate};
 ghost use Rattle.fitting.specs.Boards.{Accepted, mineTotal};
 ghost use Rattle.fitting.specs.Passes.{openCells, allOpen, judge};

@@ -1,5 +1,5 @@
 -- `take_turn` is safe and keeps what it holds inside the input: a part is read from inside what is held, by what `answer_part` ensures. Assumes nothing.
-use Prim.Native.Nat.{_+_, _≤_}
+use Prim.Native.Nat.{_≤_}
 use native.Mathlib.Omega.{arith}
 use lib.ListN.{length, length-take, length-drop}
 use borrow.Author.Needs.{needs}

@@ -1,5 +1,4 @@
 -- `answer_part` meets its contract: the loop's invariant is `Underway`, and the measure is what may still be written. Assumes nothing.
-use mathlib.Core.Path.{refl}
 use native.Mathlib.Omega.{arith}
 use Rattle.run.proofs.Underway.{Underway, left, underway-first, sum-within, read-within, underway-next, left-less}
 use borrow.Author.Needs.{needs}

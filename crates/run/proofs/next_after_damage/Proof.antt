@@ -1,5 +1,5 @@
 -- `next_after_damage` meets its contract: 11 is the number of a record that is cut short. Assumes nothing.
-use mathlib.Core.Path.{_≡_, refl, sym, _∙_}
+use mathlib.Core.Path.{refl, sym, _∙_}
 use borrow.Author.Tests.{eq-eqb, ne-eqb}
 use borrow.Author.Needs.{needs}
 use Rattle.run.proofs.next_after_damage.Statement.{statement}

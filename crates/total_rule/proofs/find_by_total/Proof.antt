@@ -1,6 +1,6 @@
 -- `find_by_total` meets its contract: the three steps over the blocks that are read leave what some layout of the total has, and what none has is listed. Rests on RuleOnBoard and on
 -- the contracts of the calls. Assumes nothing.
-use mathlib.Core.Path.{_≡_, refl, sym, ap, _∙_}
+use mathlib.Core.Path.{refl, ap, _∙_}
 use native.Mathlib.Omega.{arith}
 use Prim.Native.Nat.{ℕ, _-_, _≤_}
 use Rattle.marks.specs.CellLists.{cellList}

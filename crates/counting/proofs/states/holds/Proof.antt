@@ -1,5 +1,4 @@
 -- `counting::states::holds` meets its contract. Assumes nothing.
-use mathlib.Core.Path.{_≡_, sym}
 use borrow.Author.Needs.{needs}
 use borrow.Author.Tests.{ne-eqb, not-true, not-false, eq-eqb}
 use Rattle.counting.proofs.states.holds.Statement.{statement}

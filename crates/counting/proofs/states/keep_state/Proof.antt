@@ -1,5 +1,5 @@
 -- `counting::states::keep_state` meets its contract. Assumes nothing.
-use mathlib.Core.Path.{_≡_, refl}
+use mathlib.Core.Path.{refl}
 use borrow.Author.Needs.{needs}
 use Rattle.counting.proofs.states.keep_state.Statement.{statement}
 use Rattle.counting.proofs.states.keep_state.Tie as tie

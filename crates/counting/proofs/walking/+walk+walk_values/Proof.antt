@@ -6,8 +6,7 @@ use mathlib.Core.Logic.{⊎-elim}
 use native.Mathlib.Omega.{arith}
 use lib.ListN.{getD}
 use borrow.Author.Needs.{needs}
-use borrow.Author.Tests.{not-true, not-false, eq-eqb}
-use Rattle.search.specs.Searching.{State, unset}
+use Rattle.search.specs.Searching.{unset}
 use Rattle.search.proofs.OrderedGroups.{Group, group-at, group-place, group-small, column-is, column-on-board}
 use Rattle.search.proofs.TakenValues.{Taken, taken-on-board, taken-once, taken-needs, taken-rooms, taken-state, back-needs, back-rooms, state-same}
 use Rattle.counting.proofs.WalkedRows.{grown-same, grown-marked, walked-known, known-walked}

@@ -1,6 +1,5 @@
 -- `solutions::asking::shown_by` meets its contract. Groups are settled, one solution is asked for, and then each other group: what is marked some solution shows, and of all
 -- groups all that some solution shows is marked. Rests on what `settle`, `ask_any` and `ask_groups` ensure. Assumes nothing.
-use Prim.Native.Nat.{ℕ, _<_}
 use mathlib.Core.Path.{_≡_, refl, sym, ap, _∙_}
 use mathlib.Core.Bool.{true}
 use native.Mathlib.Omega.{arith}

@@ -1,5 +1,5 @@
 -- `total_rule::cells::list_never` meets its contract. The loop's invariant: the cells before c that pass are listed. The measure is what is left. Assumes nothing.
-use Prim.Native.Nat.{ℕ, _+_, _-_, _≤_, _<_}
+use Prim.Native.Nat.{ℕ, _-_, _≤_, _<_}
 use mathlib.Core.Path.{_≡_, refl}
 use native.Mathlib.Omega.{arith}
 use borrow.Author.Needs.{needs}

@@ -1,9 +1,8 @@
 -- `total_rule::cells::tell_cells` meets its contract. The loop's invariant: the cells before place i are told. The measure is what is left. Assumes nothing.
-use Prim.Native.Nat.{ℕ, _+_, _-_, _≤_, _<_}
+use Prim.Native.Nat.{_-_, _≤_, _<_}
 use mathlib.Core.Path.{_≡_}
 use native.Mathlib.Omega.{arith}
 use borrow.Author.Needs.{needs}
-use Rattle.lists.specs.Lists.{has}
 use lib.ListN.{getD}
 use Rattle.blocks.specs.Places.{cellsFrom}
 use Rattle.total_rule.specs.Cells.{Told}

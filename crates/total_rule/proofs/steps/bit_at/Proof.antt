@@ -1,5 +1,5 @@
 -- `total_rule::steps::bit_at` meets its contract. Assumes nothing.
-use mathlib.Core.Path.{_≡_, refl}
+use mathlib.Core.Path.{refl}
 use borrow.Author.Tests.{eq-eqb, ne-eqb}
 use borrow.Author.Needs.{needs}
 use Rattle.total_rule.proofs.steps.bit_at.Statement.{statement}

@@ -1,6 +1,6 @@
 -- `total_rule::steps::place_rest` meets its contract: the sums of all blocks and the other inside cells tell what an inside cell may be. Rests on the contracts of the
 -- calls. Assumes nothing.
-use mathlib.Core.Path.{_≡_, refl, sym, ap, _∙_}
+use mathlib.Core.Path.{refl, ap, _∙_}
 use mathlib.Core.Logic.{⊎-elim}
 use native.Mathlib.Omega.{arith}
 use Prim.Native.Nat.{_-_, _≤_}

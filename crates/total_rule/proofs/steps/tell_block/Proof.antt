@@ -1,7 +1,5 @@
 -- `total_rule::steps::tell_block` meets its contract: what the solutions show of the block's groups is told to its cells. Rests on ToldBlocks and on the contracts of
 -- the calls. Assumes nothing.
-use mathlib.Core.Path.{_≡_, refl, _∙_}
-use native.Mathlib.Omega.{arith}
 use borrow.Author.Needs.{needs}
 use Rattle.blocks.specs.Places.{blockFrom}
 use Rattle.total_rule.specs.Blocks.{mineAllowed, freeAllowed}

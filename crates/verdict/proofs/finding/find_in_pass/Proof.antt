@@ -1,6 +1,5 @@
 -- `finding::find_in_pass` meets its contract: the function that it asks finds what the rules of such a board find. Rests on the contracts of the calls. Assumes
 -- nothing.
-use mathlib.Core.Path.{_≡_}
 use Rattle.verdict.proofs.finding.find_in_pass.Statement.{statement}
 use Rattle.verdict.proofs.finding.find_in_pass.Tie as tie
 

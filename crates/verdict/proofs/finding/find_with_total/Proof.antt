@@ -1,6 +1,5 @@
 -- `finding::find_with_total` meets its contract: what the three rules find, and where that is nothing what the total finds. Rests on TotalFindings and on the
 -- contracts of the calls. Assumes nothing.
-use mathlib.Core.Path.{_≡_, refl, sym, _∙_}
 use native.Mathlib.Omega.{arith}
 use Rattle.grid.proofs.Places.{few-cells}
 use Rattle.verdict.proofs.FoundCells.{finds-nothing, finds-cell}

@@ -1,5 +1,4 @@
 -- `passes::total_shown` meets its contract. Assumes nothing.
-use mathlib.Core.Path.{_≡_}
 use Rattle.lists.proofs.Tests.{clash}
 use borrow.Author.Needs.{needs}
 use Rattle.verdict.proofs.passes.total_shown.Statement.{statement}
