@@ -39,7 +39,7 @@ pub fn rest_of(edgeless: bool, rows: usize, columns: usize, position: &[u8], c: 
 }
 
 // The equation of each source, one after another: its closed neighbours in eight slots, and its number less its neighbouring known mines, plus 8. They are
-// written in the caller's arrays, since a struct of this size costs more to hand on than to fill.
+// written in the caller's arrays: a struct of this size was copied twice on its way to the sweeps.
 pub fn read_equations(
     edgeless: bool,
     rows: usize,

@@ -85,27 +85,7 @@ pub fn find_cells(edgeless: bool, rows: usize, columns: usize, position: &[u8]) 
     find_in_blocks(read_blocks(edgeless, rows, columns, position))
 }
 
-// The same on a board that shows its mine total, which is asked only where the three rules find nothing.
-fn find_with_total(
-    edgeless: bool,
-    rows: usize,
-    columns: usize,
-    position: &[u8],
-    total: usize,
-) -> Finding
-    requires { ⌜ Board (now position) rows columns ⌝ }
-    requires { ⌜ ((m : List Bool) × Fits (neighbours edgeless rows columns) (now position) m × (count (λ x. x) m ≡ total)) ⌝ }
-    ensures { λ r. ⌜ Finds (rows * columns) (rulesAt true total (neighbours edgeless rows columns) (now (position .entry))) r ⌝ }
-{
-    let found = find_cells(edgeless, rows, columns, position);
-    if found.safe.count + found.mines.count != 0 {
-        return found;
-    }
-    graded(find_by_total(edgeless, rows, columns, position, total), 5)
-}
-
-// What a pass finds, where the board shows its mine total or not. A plain board's cells go to the pass as `find_cells` has them; handed on through the function
-// that knows a total they would be copied once more.
+// What a pass finds, where the board shows its mine total or not: the total is asked only where the three rules find nothing.
 pub fn find_in_pass(
     edgeless: bool,
     rows: usize,
@@ -118,8 +98,12 @@ pub fn find_in_pass(
     requires { ⌜ ((m : List Bool) × Fits (neighbours edgeless rows columns) (now position) m × («shows_total» ≡ true → count (λ x. x) m ≡ total)) ⌝ }
     ensures { λ r. ⌜ Finds (rows * columns) (rulesAt «shows_total» total (neighbours edgeless rows columns) (now (position .entry))) r ⌝ }
 {
-    if shows_total {
-        return find_with_total(edgeless, rows, columns, position, total);
+    let found = find_cells(edgeless, rows, columns, position);
+    if !shows_total {
+        return found;
     }
-    find_cells(edgeless, rows, columns, position)
+    if found.safe.count + found.mines.count != 0 {
+        return found;
+    }
+    graded(find_by_total(edgeless, rows, columns, position, total), 5)
 }
