@@ -1,5 +1,7 @@
 // What each call answers to a line of numbers, as a line of text in a lent buffer: the text of the oracle, so that a comparison is a `diff`. The verdict is asked by
 // two names, of a plain board and of one that shows its mine total.
+#![tactic(auto)]
+
 ghost use Rattle.text.specs.Text.{Written};
 ghost use Rattle.answers.specs.Calls.{call_line};
 

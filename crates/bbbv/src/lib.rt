@@ -1,5 +1,7 @@
 // cal_bbbv: the 3BV of a board, the fewest left clicks that open all its safe cells. A click on a zero opens its whole opening and the numbers around it, so each
 // opening takes one, counted where a flood begins; each safe cell that the floods leave closed touches no zero, and takes one of its own.
+#![tactic(auto)]
+
 ghost use Rattle.std.specs.Prelude.{◌≡◌, ℕ, length};
 ghost use Rattle.grid.specs.Window.{neighbours, Board};
 ghost use Rattle.fitting.specs.Boards.{Accepted};

@@ -1,5 +1,7 @@
 // The block set: blocks of equations in one struct of flat arrays, passed by value through the rules. Inside a rule its arrays are lent to the
 // functions that loop. specs/BlockSets.antt says what the arrays hold.
+#![tactic(auto)]
+
 ghost use Rattle.std.specs.Prelude.{◌≡◌, [], ◌*◌, ◌≤◌, ◌<◌, length, take};
 ghost use Rattle.std.proofs.lemmas.List.Edits.{sets};
 ghost use Rattle.lists.specs.Lists.{any, pad};

@@ -1,4 +1,6 @@
 // The answers of the calls on a board to a line of numbers: unsolvable_structure and cal_bbbv here, the verdict in a file of its own.
+#![tactic(auto)]
+
 pub mod verdicts;
 
 ghost use Rattle.text.specs.Text.{Written};

@@ -1,5 +1,7 @@
 // chunk_matrix and chunk_matrixes: the blocks of a set split anew into connected parts, blocks from the last to the first, in the Rust's order.
 // A part is found by marking: its first cell, then the cells of each equation that has a marked cell, until a look at all equations marks nothing new.
+#![tactic(auto)]
+
 ghost use Rattle.std.specs.Prelude.{◌≡◌, ◌&&◌, ◌||◌, List, [], ◌∷◌, ◌++◌, map, reverse, ℕ, ◌+◌, ◌-◌, ◌*◌, ◌≤◌, ◌<◌, length, get_or, take};
 ghost use Rattle.std.proofs.lemmas.List.Edits.{sets};
 ghost use Rattle.lists.specs.Lists.{has, keep, empty, joined, pad, add_new};

@@ -1,5 +1,7 @@
 // damaged: judges the files of data/ one after another, as judge does standard input: inputs that end inside a record, unknown marks, and refused boards
 // between two equal ones, whose lines must be equal.
+#![tactic(auto)]
+
 use reading::judge_records;
 
 // Prints the file's name and the answers to its records.

@@ -1,6 +1,8 @@
 // The three rules as calls on a position: each tests its input, reads a fresh frontier, hands out two lists of cells and marks them. `deduce` is any of them by
 // its rule, and the three calls are `deduce` of one rule each. specs/Answers.antt says what a caller sees, specs/Calls.antt what that means and
 // specs/Contradictions.antt where it is refusal 6: the first clause of each call gives every byte, the others what demand 2 asks of it.
+#![tactic(auto)]
+
 pub mod answer;
 
 ghost use Rattle.std.specs.Prelude.{◌≡◌, Bool, length};

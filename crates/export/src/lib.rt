@@ -2,6 +2,8 @@
 // has room for. A refusal writes nothing. Numbers and slices only (a slice is a pointer and its length), and nothing is asked of the caller.
 // The first clause of a call gives the number and every lent byte, whatever room there is for counts. What demands 2 and 3 ask is said in the other clauses, of
 // the number, the slices and the first two counts, where there is room for both; when a rule refuses with 6 is said of the number alone.
+#![tactic(auto)]
+
 ghost use Rattle.std.specs.Prelude.{◌≡◌, Bool, List, [], ◌∷◌, ◌<◌, eqb, length, get_or, set};
 ghost use Rattle.lists.specs.Lists.{bit as bit_of};
 ghost use Rattle.grid.specs.Window.{flat, neighbours};

@@ -1,5 +1,7 @@
 // refresh_board: opens the cells of a list, and from each opened 0 its neighbours. A cell is opened as it is put on the stack, so that it stands there at
 // most once; the stack has the opened cells whose neighbours are still to be looked at.
+#![tactic(auto)]
+
 ghost use Rattle.std.specs.Prelude.{◌≡◌, true, ◌*◌, ◌≤◌, ◌<◌, ltb, length, take};
 ghost use Rattle.lists.specs.Lists.{all};
 ghost use Rattle.grid.specs.Window.{neighbours, Board};

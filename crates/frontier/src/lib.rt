@@ -1,6 +1,8 @@
 // refresh_matrixs: the frontier of a position as a block set, in the Rust's order. First the sources (open cells with a closed neighbour) are
 // listed in reading order, each with its closed neighbours; then blocks grow from the first source left, and their cells and equations are written
 // one block after another.
+#![tactic(auto)]
+
 pub mod counts;
 
 ghost use Rattle.std.specs.Prelude.{◌≡◌};

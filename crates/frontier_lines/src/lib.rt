@@ -1,4 +1,6 @@
 // The answer of refresh_matrixs to a line of numbers: `inside 1 mines 0 blocks 1 [1 | 1=1]`, or a refusal.
+#![tactic(auto)]
+
 ghost use Rattle.text.specs.Text.{Written};
 ghost use Rattle.frontier_lines.specs.Frontier.{frontier_line};
 

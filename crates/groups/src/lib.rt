@@ -1,6 +1,8 @@
 // combine: the cells of a block that the same equations have form a group. A cell's column, the places of the equations that have it, is gathered in eight
 // slots; then each cell, in the block's order, joins the first group whose first cell has an equal column, or begins a group. What the search needs is kept
 // by group: its size, its column; and by equation: what it needs, and how many cells it has.
+#![tactic(auto)]
+
 ghost use Rattle.std.specs.Prelude.{◌≡◌, true, [], ◌∷◌, ◌++◌, map, ℕ, ◌-◌, ◌*◌, ◌≤◌, ◌<◌, leb, ltb, length, take, replicate};
 ghost use Rattle.std.proofs.lemmas.List.Edits.{sets};
 ghost use Rattle.lists.specs.Lists.{any, all, count, nodup, first_place, joined, pad};

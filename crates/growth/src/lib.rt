@@ -1,5 +1,7 @@
 // A block grows from the first source left: sources that share a closed cell with one found are found too, each list scanned from its last to its first,
 // and the last source left moves into the gap of one that is taken.
+#![tactic(auto)]
+
 ghost use Rattle.std.specs.Prelude.{◌≡◌, ◌∷◌, ◌++◌, reverse, ◌+◌, ◌-◌, ◌≤◌, ◌<◌, length, get_or, take, drop};
 ghost use Rattle.lists.specs.Lists.{keep, rotated};
 ghost use Rattle.sources.specs.Reading.{slots_meet, near_enough, Slots, Cells};

@@ -1,4 +1,6 @@
 // judge: reads board records from standard input, and prints a header and a line for each.
+#![tactic(auto)]
+
 use reading::judge_records;
 
 // At a terminal nothing is to be judged yet: says what the program waits for.

@@ -1,5 +1,7 @@
 // A line of decimal numbers read as a position or a board: rows, columns, and the cells row by row; or as a board with its start, whose row and column stand
 // before the cells. The reading stops at the first word that is no number, and the line is unreadable then.
+#![tactic(auto)]
+
 ghost use Rattle.std.specs.Prelude.{◌≡◌};
 ghost use Rattle.lines.specs.Lines.{pair_at, cell_byte, no_line, with_cells, numbers_at, line_of, no_start, with_start, start_line_of};
 

@@ -23,6 +23,7 @@ use Rattle.lists.proofs.Joined.{read_all}
 module _ {A : Type 0} where
   -- an element stands at a place
   pub mem_place : {x : A} (l : List A) (d : A) → Memᴰ x l → (i : ℕ) × (i < length l) × (get_or l i d ≡ x)
+  mem_place [] d x'' = elim x'' [ ]
   mem_place (y ∷ l) d (Memᴰ.head e) = (0, omega arith, sym e)
   mem_place (y ∷ l) d (Memᴰ.tail m) = let (i, w, e) = mem_place l d m in (suc i, omega arith, e)
 

@@ -1,6 +1,8 @@
 // Cells marked in arrays of bytes: 1 for a cell that is found, 0 for any other. `listing` has lists of cells with their counts and lists the cells of blocks by
 // their marks, `left` writes what is left of blocks without the marked cells; `write_at_cells` writes a value at the cells of a list. specs/Marked.antt,
 // specs/CellLists.antt and specs/Written.antt say what these functions are told and tell.
+#![tactic(auto)]
+
 pub mod left;
 pub mod listing;
 

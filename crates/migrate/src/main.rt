@@ -1,4 +1,6 @@
 // migrate: reads stored board records from standard input, and writes them to standard output with the start that 255,255 meant.
+#![tactic(auto)]
+
 use migrating::migrate_stored;
 
 // At a terminal nothing is to be migrated yet: says what the program waits for.

@@ -1,5 +1,7 @@
 // migrate_files: migrates the files of data/ one after another, as migrate does standard input: unknown marks with good records behind them, short records, and inputs longer
 // than one read.
+#![tactic(auto)]
+
 use migrating::migrate_stored;
 
 // Prints the file's name and what its records become.

@@ -1,6 +1,8 @@
 // Migration over an open file: read, migrate, write, keep what did not go out. What the bytes become is decided by `migrate_part`, whose contract holds wherever the
 // input is cut; here they are only moved, and nothing else goes to standard output. How the run ended is told on standard error: a read or a write that failed with its
 // cause, and then nothing more; else where copying began, and a summary.
+#![tactic(auto)]
+
 ghost use Rattle.std.specs.Prelude.{◌≡◌, ◌≤◌, ◌<◌, length};
 
 use migration::{Counts, counts_after, migrate_part, no_counts};

@@ -1,6 +1,8 @@
 // Stored records carried over, on bytes: a start of 255,255 meant the first 0 in reading order, and its two bytes become the row and the column of that 0. The records of a
 // part of the input are carried over where they stand, wherever the input is cut; from where no whole record with the mark 4D 42 begins on, the bytes stay as they are. A program
 // only reads, calls `migrate_part`, writes, and keeps the bytes that did not go out. specs/Migrated.antt says what becomes of the whole input, specs/Parts.antt of a part of it.
+#![tactic(auto)]
+
 ghost use Rattle.std.specs.Prelude.{◌≡◌, true, false, not, ◌&&◌, ◌+◌, ◌*◌, ◌≤◌, ◌<◌, length, get_or, take, drop};
 ghost use Rattle.migration.specs.Migrated.{is_stored, is_open, first_zero, started_at, migrated_record};
 ghost use Rattle.migration.specs.Parts.{no_counts, counts_sum, counts_after, counts_of, Migrates, Progress};

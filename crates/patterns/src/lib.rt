@@ -1,5 +1,7 @@
 // unsolvable_structure: whether a board has one of the patterns of mines that the Rust looks for before it solves. The board is copied into 32 rows of 32
 // cells, on which the shapes of constant tables are laid at every anchor.
+#![tactic(auto)]
+
 mod table;
 
 ghost use Rattle.std.specs.Prelude.{◌≡◌, replicate};

@@ -2,6 +2,8 @@
 // calls frontier, direct, minus, enumerate, table, pattern and bbbv take lines `R C v v v ..`, and verdict and total, with the start's row and column,
 // `R C r c v v v ..`; total is the verdict of a board that shows its mine total. A line of more than 16,384 bytes is unreadable. table prints the table of each
 // block, for which 16,384 bytes are lent; past that it is `refused 9`.
+#![tactic(auto)]
+
 ghost use Rattle.std.specs.Prelude.{◌≡◌, ◌<◌, length};
 
 use answers::{Call, call_line};

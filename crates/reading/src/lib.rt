@@ -1,6 +1,8 @@
 // The run over an open file: read, answer, write, keep what was not read. What the bytes come to is decided by `answer_part`, whose contract holds wherever the
 // input is cut; here they are only moved. How the run ended is told on standard error: a read or a write that failed with its cause, a damaged record with its
 // place, and a summary where all that could be judged was judged and written.
+#![tactic(auto)]
+
 ghost use Rattle.std.specs.Prelude.{◌≡◌, ◌≤◌, length};
 
 use refusals::{Refusal, refusal_number};

@@ -1,5 +1,7 @@
 // The lines that answer board records, and the verdict of a whole one. A line is the record's number, then the verdict and its three numbers, or `refused` and the refusal's. What a
 // record is, `records` tells; which mark is judged how, is decided here.
+#![tactic(auto)]
+
 ghost use Rattle.std.specs.Prelude.{◌≡◌, ◌≤◌, length, replicate};
 ghost use Rattle.text.specs.Text.{Written};
 ghost use Rattle.verdict.specs.Verdict.{verdict_seen};

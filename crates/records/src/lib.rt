@@ -1,5 +1,7 @@
 // The format of board records. A record is a mark of two bytes, then rows, columns, start row, start column, a byte each, and the cells row by row. What a part of the
 // input is that begins where a record should, is decided here; by which line it is answered, in `record_lines`.
+#![tactic(auto)]
+
 ghost use Rattle.std.specs.Prelude.{◌≡◌, ◌≤◌};
 ghost use Rattle.records.specs.Records.{record_length, board_mark, known_mark, record_of};
 

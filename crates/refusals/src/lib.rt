@@ -1,5 +1,7 @@
 // The refusals of SPECIFICATION 3.1 and the tests that give them. A call runs its tests in the order of 3.2 and answers the first refusal;
 // what a later test asks for, the earlier ones have shown. No test forms rows × columns before the size is known to be small.
+#![tactic(auto)]
+
 ghost use Rattle.std.specs.Prelude.{◌≡◌, true, not, cond, ◌&&◌, ◌||◌, leb};
 ghost use Rattle.lists.specs.Lists.{all};
 ghost use Rattle.grid.specs.Window.{neighbours, Sized, Board};

@@ -1,6 +1,8 @@
 // replay: runs the stored answers in data/, one file for each call, in which a line that is asked and the line that was answered follow each other. They are the
 // Rust's; those of total, a call that the Rust has not, are of another judge, written from the definition alone. It names each case whose answer differs, and says how
 // many agree. Last it runs eighteen answers that are wrong on purpose, and says how many of them it took for right.
+#![tactic(auto)]
+
 ghost use Rattle.std.specs.Prelude.{◌≡◌, ◌<◌, length};
 ghost use Rattle.replay.specs.Stored.{agreeing, judged, one_more};
 

@@ -1,5 +1,7 @@
 // The round in which each cell was opened, kept beside the position: a number for each cell, and 65535 while the cell has none. A cell gets its round once, after
 // the flood that opened it, and keeps it. specs/GivenRounds.antt says what a round given is; that the numbers are the rounds of SPECIFICATION 9.6 is a law.
+#![tactic(auto)]
+
 ghost use Rattle.std.specs.Prelude.{◌≡◌, true, [], ◌*◌, ◌≤◌, ltb, length, take};
 ghost use Rattle.lists.specs.Lists.{all};
 ghost use Rattle.grid.specs.Window.{neighbours, Board};

@@ -1,5 +1,7 @@
 // The answers of the calls that deduce to a line of numbers: `refused 6`, or the two lists, the position with its marks, and the blocks left where the rule
 // hands them out.
+#![tactic(auto)]
+
 ghost use Rattle.std.specs.Prelude.{◌≡◌, ◌≤◌, length};
 ghost use Rattle.blocks.specs.BlockSets.{Whole};
 ghost use Rattle.deductions.specs.Answers.{seen};

@@ -1,6 +1,8 @@
 // The run of the program, on bytes: the records of a part of the input are answered into a lent buffer, line after line, wherever the input is cut. The header, the numbers,
 // where the next record begins and when the run ends are decided here; a program only reads, calls `answer_part`, writes, and keeps the bytes that were not read.
 // specs/Run.antt says what the whole input prints, specs/Parts.antt what a part of it does.
+#![tactic(auto)]
+
 ghost use Rattle.std.specs.Prelude.{◌≡◌, ◌+◌, ◌-◌, ◌≤◌, ◌<◌, length, take, drop};
 ghost use Rattle.record_lines.specs.Answers.{line_text};
 ghost use Rattle.run.specs.Run.{header, tally_of};

@@ -1,5 +1,7 @@
 // The search for solutions: the groups of an order are set one after another, each value from 0 to the group's size that its equations can take; the
 // functions call each other, and the number of unset groups falls. `needs` and `rooms` are lowered on the way down and raised again on the way up.
+#![tactic(auto)]
+
 ghost use Rattle.std.specs.Prelude.{◌≡◌, true, ℕ, suc, ◌-◌, ◌≤◌, ◌<◌, leb, eqb, length, get_or, take};
 ghost use mathlib.Core.List.{map, Memᴰ};
 ghost use Rattle.lists.specs.Lists.{all, nodup};

@@ -1,5 +1,7 @@
 // Groups that are settled without a search: where the equations of a group leave it one value, it gets that value before anything is asked. Its equations
 // then need less, which may leave another group one value, and so on until a sweep over the groups settles none. The search goes over the other groups alone.
+#![tactic(auto)]
+
 ghost use Rattle.std.specs.Prelude.{◌≡◌, ◌⊎◌, true, false, List, ℕ, ◌≤◌, ◌<◌, ltb, length, get_or, take};
 ghost use Rattle.lists.specs.Lists.{all, has};
 ghost use Rattle.blocks.specs.Places.{OnBoard};

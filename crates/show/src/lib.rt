@@ -1,5 +1,7 @@
 // Answers as lines of text: block sets, positions, the rounds in which their cells were opened, and refusals, written into a lent buffer. A struct's arrays are copied into
 // locals before they are lent, since a field cannot be lent beside another. specs/ says what the text of each thing is.
+#![tactic(auto)]
+
 ghost use Rattle.std.specs.Prelude.{◌≡◌, map, ◌-◌, ◌≤◌, ◌<◌, length};
 ghost use Rattle.lists.specs.Lists.{range, joined};
 ghost use Rattle.refusals.specs.Refusals.{refusal_number};

@@ -1,4 +1,6 @@
 // The sources of a position: the open cells with a closed neighbour, in reading order, and for each the eight slots of its closed neighbours.
+#![tactic(auto)]
+
 pub mod equations;
 
 ghost use Rattle.std.specs.Prelude.{◌+◌, ◌*◌, ◌<◌};

@@ -1,5 +1,7 @@
 // streams: judges the 70,000 bytes of data/seventy_thousand as judge does standard input, with an input buffer of each size from the least that holds the longest record
 // and a byte more to a hundred bytes beyond, so that a read ends at each place of the records that stand there. The output buffer has room for two lines.
+#![tactic(auto)]
+
 ghost use Rattle.std.specs.Prelude.{◌≤◌};
 
 use reading::judge_records;

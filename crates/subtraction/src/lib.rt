@@ -1,6 +1,8 @@
 // solve_minus on a block set. Of two equations that share a cell, where the one has as many own cells as it has mines more, these are mines and the other's
 // own cells are safe. All ordered pairs of a block's equations are looked at before a cell is taken out; an equation beside itself has no own cells and
 // marks none. Then the direct rule runs on what is left.
+#![tactic(auto)]
+
 pub mod own;
 
 ghost use Rattle.std.specs.Prelude.{◌≡◌, true, ◌||◌, ℕ, ◌≤◌, ◌<◌, length, get_or};

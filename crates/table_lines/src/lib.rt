@@ -1,6 +1,8 @@
 // The answers of cal_all_solution to a line of numbers: for each block of its position's frontier in order, how many groups and solutions it has, and a row
 // for each solution with a value for each group. Each block's table is asked for in a fresh table of 16,384 bytes, and a block whose rows do not fit is a
 // refusal in its place. The rows stand in the lent table one after another, so the text is read off its front. specs/Tables.antt says what the text is.
+#![tactic(auto)]
+
 ghost use Rattle.std.specs.Prelude.{map, ◌+◌, ◌-◌, ◌*◌, ◌≤◌, length};
 ghost use Rattle.lists.specs.Lists.{range, joined};
 ghost use Rattle.tables.specs.declared.TableAnswer.TheVariants.{Listed};

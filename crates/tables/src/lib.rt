@@ -1,6 +1,8 @@
 // cal_all_solution: the solution table of one block of a position's frontier, a row for each solution and in it a byte for each group, in the order of
 // weights of SPECIFICATION 11.4. Whether the rows fit the lent table is known before a byte is written: solutions are spent, not counted, from one more than there is room
 // for, so the first walk ends as soon as the table is known to be too short. specs/Tables.antt says what a caller sees, specs/Listed.antt what that means.
+#![tactic(auto)]
+
 ghost use Rattle.std.specs.Prelude.{◌≡◌, ◌*◌, ◌<◌, leb, length};
 ghost use mathlib.Core.List.{Memᴰ};
 ghost use Rattle.blocks.specs.Blocks.{Block};

@@ -1,5 +1,7 @@
 // Text in a lent buffer: bytes and decimal numbers written one after another, and decimal numbers read from a line. A writer that runs past the
 // buffer's end writes what fits and stops at the end, so a text is surely whole where the place after it is below the buffer's length.
+#![tactic(auto)]
+
 ghost use Rattle.std.specs.Prelude.{◌≡◌, true, [], ◌∷◌, ◌+◌, ◌-◌, ◌*◌, ◌≤◌, min, length, drop};
 ghost use Rattle.text.specs.Text.{decimal, Written, is_gap, is_digit, number_from, word_at, PastGaps};
 

@@ -1,6 +1,8 @@
 // The fourth rule, on a board that shows its mine total: each closed cell, on or off the frontier, that is the same in every layout that fits and holds that total. The
 // known mines leave a rest to place. Each block's possible mine counts are worked out, the blocks are joined, and what they leave goes to the inside cells; a
 // cell that no layout has as a mine is safe, and one that none has free is a mine.
+#![tactic(auto)]
+
 pub mod cells;
 pub mod steps;
 

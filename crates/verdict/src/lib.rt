@@ -1,6 +1,8 @@
 // The verdict: is_solvable with refresh_board and IsVictory, in the passes of SPECIFICATION 9.1, and the same of a board that shows its mine total. The passes work on a position of their own; at the end
 // it goes to the lent picture, and what is not open is 10 there. The rounds in which cells were opened are kept in the other lent slice. specs/Verdict.antt says
 // what a caller sees; demand 3 is part of the contract.
+#![tactic(auto)]
+
 pub mod finding;
 pub mod passes;
 

@@ -1,0 +1,25 @@
+use Prim.Native.Nat.{◌+◌, ◌-◌, ◌*◌}
+use mathlib.Core.Path.{◌≡◌, refl, ◌∙◌}
+use mathlib.Core.Logic.{⊎_elim}
+use mathlib.Core.Bool.{false}
+use lib.Dec.{eqb}
+use native.Mathlib.Omega.{arith}
+use borrow.Author.Rules.{rules}
+use borrow.Author.Tests.{eq-eqb, ne_eqb}
+use Rattle.lists.specs.Lists.{any, without}
+use Rattle.grid.specs.Cells.{cell_of}
+use Rattle.grid.specs.Window.{folded, neighbours}
+use Rattle.grid.proofs.Walk.{rows_from, cells_from, enter, leave, done, pass_other, pass_own, walk_neighbours}
+use Rattle.grid.proofs.window.shown_beside.Given as goal
+
+abbrev pub invariant-loop-n : goal.invariant-loop-n
+invariant-loop-n l =
+    (l.found ≡ false)
+    × (any (λ d. eqb (cell_of l.cells d) l.value) (without l.own (cells_from l.rows l.columns l.left l.right l.bottom l.m l.n))
+    ≡ any (λ d. eqb (cell_of l.cells d) l.value) (neighbours l.edgeless l.rows l.columns (l.row * l.columns + l.column)))
+
+abbrev pub invariant-outer : goal.invariant-outer
+invariant-outer l =
+    (l.found ≡ false)
+    × (any (λ d. eqb (cell_of l.cells d) l.value) (without l.own (rows_from l.rows l.columns l.left l.right l.bottom l.m))
+    ≡ any (λ d. eqb (cell_of l.cells d) l.value) (neighbours l.edgeless l.rows l.columns (l.row * l.columns + l.column)))
