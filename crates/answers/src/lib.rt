@@ -14,7 +14,7 @@ use rule_lines::deduction_line;
 use table_lines::table_line;
 
 // The calls that a line may be put to.
-#[derive(Drop)]
+#[derive(Clone, Copy)]
 pub enum Call {
     Frontier,
     Direct,

@@ -14,7 +14,7 @@ use flood::refresh_board;
 use refusals::{Refusal, Tested, test_bbbv};
 
 // What the 3BV call answers.
-#[derive(Drop)]
+#[derive(Clone, Copy)]
 pub enum BbbvAnswer {
     Refused(Refusal),
     Counted(usize),

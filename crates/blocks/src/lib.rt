@@ -81,7 +81,7 @@ pub fn slots_at(slots: &[u16; 8192], e: usize) -> UpToEight
 }
 
 // Where a block's cells and equations begin and end.
-#[derive(Drop)]
+#[derive(Clone, Copy)]
 pub struct Bounds {
     pub first_cell: usize,
     pub end_cell: usize,

@@ -7,7 +7,7 @@ ghost use Rattle.counting.specs.States.{key_of};
 use grid::window::wide_byte;
 
 // The key of a state; where its digits are too many it does not fit, and the state is not looked for.
-#[derive(Drop)]
+#[derive(Clone, Copy)]
 pub struct Key {
     pub fits: bool,
     pub digits: usize,

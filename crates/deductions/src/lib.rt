@@ -32,7 +32,7 @@ use refusals::{Tested, test_deduction};
 use subtraction::minus_rule;
 
 // The rules that can be called on a position.
-#[derive(Drop)]
+#[derive(Clone, Copy)]
 pub enum Rule {
     Direct,
     Minus,

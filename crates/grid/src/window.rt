@@ -10,7 +10,7 @@ ghost use Rattle.grid.specs.Window.{low_at, high_at, folded, is_inner, eight_aro
 pub const FLAT: bool = false;
 
 // The rows from top up to bottom and the columns from left up to right, the ends left out: a cell and its neighbours.
-#[derive(Drop)]
+#[derive(Clone, Copy)]
 pub struct Window {
     pub top: usize,
     pub bottom: usize,
@@ -19,7 +19,7 @@ pub struct Window {
 }
 
 // At most eight cells: the first len slots, and 0 in the others.
-#[derive(Drop)]
+#[derive(Clone, Copy)]
 pub struct UpToEight {
     pub cells: [u16; 8],
     pub len: usize,

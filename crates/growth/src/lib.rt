@@ -11,7 +11,7 @@ use blocks::{marks_of, meets_marks, slots_at};
 use grid::window::wide;
 
 // How many sources are left, and how many the block has.
-#[derive(Drop)]
+#[derive(Clone, Copy)]
 pub struct Sizes {
     pub left: usize,
     pub found: usize,

@@ -26,7 +26,7 @@ pub struct StartLine {
 }
 
 // Two numbers of a line, and the place after them.
-#[derive(Drop)]
+#[derive(Clone, Copy)]
 pub enum Pair {
     Numbers(usize, usize, usize),
     Missing,

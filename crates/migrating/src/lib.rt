@@ -10,7 +10,7 @@ use run::keep_rest;
 
 // A run between two reads: how many bytes are held at the front of the input, whether all is copied by now, the records counted, whether the input has ended, and whether a
 // read or a write has failed.
-#[derive(Drop)]
+#[derive(Clone, Copy)]
 struct Turn {
     held: usize,
     copying: bool,

@@ -13,7 +13,7 @@ use records::record_length;
 use run::capped_sum;
 
 // How many records passed through, how many of them changed, and how many bytes they have.
-#[derive(Drop)]
+#[derive(Clone, Copy)]
 pub struct Counts {
     pub records: usize,
     pub changed: usize,
@@ -21,7 +21,7 @@ pub struct Counts {
 }
 
 // What becomes of a part of the input: how many of its bytes go out, whether all that follows is copied, and the records counted.
-#[derive(Drop)]
+#[derive(Clone, Copy)]
 pub struct Part {
     pub len: usize,
     pub copying: bool,

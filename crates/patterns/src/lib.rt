@@ -15,7 +15,7 @@ use refusals::{Refusal, Tested, test_pattern};
 use table::pattern_found;
 
 // What the pattern call answers.
-#[derive(Drop)]
+#[derive(Clone, Copy)]
 pub enum PatternAnswer {
     Refused(Refusal),
     NotFound,

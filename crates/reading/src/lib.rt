@@ -9,7 +9,7 @@ use refusals::{Refusal, refusal_number};
 use run::{Run, RunState, Tally, answer_part, goes_on, keep_rest, new_run, run_after};
 
 // A run between two reads: how many bytes are held at the front of the input, how far the run has come, and whether a read or a write has failed.
-#[derive(Drop)]
+#[derive(Clone, Copy)]
 struct Turn {
     held: usize,
     run: Run,

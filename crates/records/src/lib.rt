@@ -9,7 +9,7 @@ use grid::window::wide_byte;
 use refusals::Refusal;
 
 // What the first two bytes of a record mark: a case for each mark that is known, and one for all others.
-#[derive(Drop)]
+#[derive(Clone, Copy)]
 pub enum BoardMark {
     // 4D 42: a plain board.
     Plain,
@@ -20,7 +20,7 @@ pub enum BoardMark {
 }
 
 // What a part of the input is that begins where a record should.
-#[derive(Drop)]
+#[derive(Clone, Copy)]
 pub enum Record {
     // Nothing: the input has ended.
     End,

@@ -12,7 +12,7 @@ ghost use Rattle.refusals.specs.SharedTests.{cell_in, cell_tests};
 use grid::window::{count_beside, wide_byte};
 
 // What a call may refuse, in the order of their numbers, of which 7 is not given again.
-#[derive(Drop)]
+#[derive(Clone, Copy)]
 pub enum Refusal {
     Size,
     Length,
@@ -28,7 +28,7 @@ pub enum Refusal {
 }
 
 // What a call's tests answer.
-#[derive(Drop)]
+#[derive(Clone, Copy)]
 pub enum Tested {
     Accepted,
     Refused(Refusal),

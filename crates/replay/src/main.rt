@@ -11,7 +11,7 @@ use check::same;
 
 // Where a file stands: whether a case that differs is named, whether the line that comes is an answer, how long the line asked and the line that comes are so
 // far, and the cases so far.
-#[derive(Drop)]
+#[derive(Clone, Copy)]
 struct State {
     named: bool,
     answering: bool,

@@ -16,7 +16,7 @@ use text::put_bytes;
 use verdict::Verdict;
 
 // How many verdicts say yes, say no, and refuse.
-#[derive(Drop)]
+#[derive(Clone, Copy)]
 pub struct Tally {
     pub yes: usize,
     pub no: usize,
@@ -24,7 +24,7 @@ pub struct Tally {
 }
 
 // Whether the run goes on after a part of the input, has come to the input's end, or stops at a damaged record.
-#[derive(Drop)]
+#[derive(Clone, Copy)]
 pub enum RunState {
     GoesOn,
     Complete,
@@ -33,7 +33,7 @@ pub enum RunState {
 
 // What a part of the input is answered by: how many of its bytes are read and how many are written, the number of the next line, the verdicts counted, and how
 // the run stands.
-#[derive(Drop)]
+#[derive(Clone, Copy)]
 pub struct Part {
     pub read: usize,
     pub len: usize,
@@ -43,7 +43,7 @@ pub struct Part {
 }
 
 // How far a run has come: the number of the next line, how many bytes of the input are read, the verdicts counted, and how the run stands.
-#[derive(Drop)]
+#[derive(Clone, Copy)]
 pub struct Run {
     pub next: usize,
     pub read: usize,
@@ -52,7 +52,7 @@ pub struct Run {
 }
 
 // What stands at the front of a part of the input.
-#[derive(Drop)]
+#[derive(Clone, Copy)]
 enum Next {
     // The beginning of a record: more bytes may follow.
     Waits,

@@ -15,7 +15,7 @@ use orders::Order;
 use search::lower;
 
 // The least and the most mines that the equations of a group leave it; none where the least is the greater.
-#[derive(Drop)]
+#[derive(Clone, Copy)]
 pub struct Span {
     pub least: u8,
     pub most: u8,

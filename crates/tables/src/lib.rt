@@ -22,7 +22,7 @@ use rows::put_rows;
 use search::spend;
 
 // What the call answers: a refusal, or how many solutions and groups the block has.
-#[derive(Drop)]
+#[derive(Clone, Copy)]
 pub enum TableAnswer {
     Refused(Refusal),
     Listed(usize, usize),

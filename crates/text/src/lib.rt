@@ -6,7 +6,7 @@ ghost use Rattle.std.specs.Prelude.{◌≡◌, true, [], ◌∷◌, ◌+◌, ◌
 ghost use Rattle.text.specs.Text.{decimal, Written, is_gap, is_digit, number_from, word_at, PastGaps};
 
 // What is read in a line from a place on: a number and the place after it, the line's end, or anything else.
-#[derive(Drop)]
+#[derive(Clone, Copy)]
 pub enum Word {
     Number(usize, usize),
     End,

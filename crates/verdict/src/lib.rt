@@ -23,7 +23,7 @@ use refusals::{Refusal, Tested, start_cell, test_board};
 use rounds::no_rounds;
 
 // What the verdict answers: a refusal, or yes or no, the opened cells, the grade and the rounds.
-#[derive(Drop)]
+#[derive(Clone, Copy)]
 pub enum Verdict {
     Refused(Refusal),
     Judged(bool, usize, usize, usize),

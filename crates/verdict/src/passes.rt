@@ -17,7 +17,7 @@ use marks::write_at_cells;
 use rounds::open_in_round;
 
 // How the passes end. The grade is that of the strongest rule that found a cell, whether all safe cells are open or not.
-#[derive(Drop)]
+#[derive(Clone, Copy)]
 pub struct Ending {
     pub yes: bool,
     pub grade: usize,

@@ -1,0 +1,66 @@
+-- `chunks::put_rests` meets its contract. The loop's invariant: the remainders of the marked equations before place e, from the last to the first, stored
+-- from place k on, give what all of them give from `at` on. The measure is e. Rests on the laws of `Storing`. Assumes nothing.
+use Prim.Native.Nat.{ℕ, ◌-◌, ◌≤◌, ◌<◌}
+use mathlib.Core.Path.{◌≡◌, refl, sym, ◌∙◌}
+use mathlib.Core.List.{[], ◌∷◌}
+use native.Mathlib.Omega.{arith}
+use lib.ListN.{get_or}
+use Rattle.blocks.proofs.Between.{listed_on_board, listed_marked}
+use Rattle.chunks.specs.Splitting.{marked_places}
+use Rattle.lists.proofs.Storing.{Storing, storing_start, storing_room, storing_next, storing_pass, storing_end, single_store, single_stored}
+use Rattle.chunks.proofs.Gathered.{place_kept, place_passed, place_none}
+use borrow.Author.Rules.{rules}
+use Rattle.chunks.proofs.put_rests.Goals as goal
+use Rattle.chunks.proofs.put_rests.Goals.{Then-meets_marks}
+
+pub loop-e-init : goal.loop-e-init
+loop-e-init c = (search rules, storing_start c.requires.out_len)
+
+pub slots_at-requires : goal.slots_at-requires
+slots_at-requires c = (c.requires.slots.whole, omega (arith, c.requires.slots.few, c.loop-e-test.true))
+
+pub meets_marks-requires : goal.meets_marks-requires
+meets_marks-requires c = listed_on_board _ c.args.slots.now _ c.slots_at.ensures c.args.end c.requires.slots (omega (arith, c.loop-e-test.true))
+
+-- the equation before place e is kept
+kept : (c : Then-meets_marks)
+    → marked_places c.args.marks.now c.args.slots.now c.args.first c.loop-e.e
+    ≡ (c.loop-e.e - 1) ∷ marked_places c.args.marks.now c.args.slots.now c.args.first (c.loop-e.e - 1)
+kept c =
+    place_kept c.args.marks.now c.args.slots.now c.args.first c.loop-e.e c.loop-e-test.true
+    (listed_marked _ c.args.slots.now _ c.slots_at.ensures c.args.marks.now _ (sym c.meets_marks.ensures ∙ c.if-meets_marks.true))
+
+-- and there is room for it
+room : (c : Then-meets_marks) → c.loop-e.k < 1024
+room c = storing_room c.loop-e.invariant.1 (kept c) 1024 c.requires.end_bound
+
+pub bounds-rests-e : goal.bounds-rests-e
+bounds-rests-e c = omega (arith, c.requires.slots.few, c.loop-e-test.true)
+
+pub bounds-out-k : goal.bounds-out-k
+bounds-out-k c = room (goal.at.bounds-out-k c).Then-meets_marks
+
+pub overflow_add-k : goal.overflow_add-k
+overflow_add-k c = omega (arith, room (goal.at.overflow_add-k c).Then-meets_marks)
+
+pub loop-e-preserved-then-meets_marks : goal.loop-e-preserved-then-meets_marks
+loop-e-preserved-then-meets_marks c =
+    let loop = c.loop-e in (
+      search rules,
+      storing_next loop.invariant.1 (kept (goal.at.loop-e-preserved-then-meets_marks c).Then-meets_marks) refl _ (single_store loop.out loop.k (get_or c.args.rests.now (loop.e - 1) 0)),
+    )
+
+pub loop-e-preserved : goal.loop-e-preserved
+loop-e-preserved c =
+    let loop = c.loop-e in (
+      search rules,
+      storing_pass loop.invariant.1
+          (place_passed c.args.marks.now c.args.slots.now c.args.first loop.e c.loop-e-test.true
+          (listed_marked _ c.args.slots.now _ c.slots_at.ensures c.args.marks.now _ (sym c.meets_marks.ensures ∙ c.if-meets_marks.false))),
+    )
+
+pub returns : goal.returns
+returns c =
+    let loop = c.loop-e in
+    let end = storing_end loop.invariant.1 (place_none c.args.marks.now c.args.slots.now c.args.first loop.e c.loop-e-test.false) in
+    single_stored (λ x. get_or c.args.rests.now x 0) c.args.out.now c.args.at (marked_places c.args.marks.now c.args.slots.now c.args.first c.args.end) loop.out end.1

@@ -1,0 +1,39 @@
+-- `marks::left::left_blocks` meets its contract. The loop's invariant: the blocks put so far, with what is left of the set's blocks from place b on, are what is left
+-- of all of them. The measure is what is left of the set. Rests on the laws of `Growing` and on `left_small`. Assumes nothing.
+use Prim.Native.Nat.{ℕ, ◌-◌, ◌<◌}
+use mathlib.Core.List.{List}
+use native.Mathlib.Omega.{arith}
+use lib.ListN.{length, drop}
+use Rattle.blocks.specs.BlockSets.{blocks_of}
+use Rattle.blocks.specs.declared.BlockSet.{BlockSet}
+use Rattle.blocks.proofs.Behind.{Growing, blocks_held}
+use Rattle.blocks.proofs.Standing.{arrays_in}
+use Rattle.marks.specs.Marked.{left_blocks}
+use Rattle.marks.proofs.LeftInSet.{left_start, left_room_in, left_next, left_end}
+use borrow.Author.Rules.{rules}
+use Rattle.marks.proofs.left.left_blocks.Goals as goal
+use Rattle.marks.proofs.left.left_blocks.Invariants.{held}
+
+pub loop-b-init : goal.loop-b-init
+loop-b-init c = left_start c.args.subtracted c.args.mines.now c.args.known.now c.args.set c.requires _ c.empty_set-out.ensures
+
+pub bounds_at-bounds-requires : goal.bounds_at-bounds-requires
+bounds_at-bounds-requires c = omega (arith, c.loop-b-test.true, blocks_held c.args.set c.requires, c.requires.fits.few_blocks)
+
+pub put_left-out-requires : goal.put_left-out-requires
+put_left-out-requires c =
+    let loop = c.loop-b in
+    let inside : loop.b < length (blocks_of c.args.set) = omega (arith, c.loop-b-test.true, blocks_held c.args.set c.requires) in
+    rw c.bounds_at-bounds.ensures record { arrays = arrays_in c.args.set c.requires loop.b inside; room = left_room_in c.args.subtracted c.args.mines.now c.args.known.now c.args.set c.requires loop.out loop.b loop.invariant inside }
+
+pub overflow_step-b : goal.overflow_step-b
+overflow_step-b c = omega (arith, c.loop-b-test.true, blocks_held c.args.set c.requires, c.requires.fits.few_blocks)
+
+pub loop-b-preserved : goal.loop-b-preserved
+loop-b-preserved c =
+    let loop = c.loop-b in
+    let inside : loop.b < length (blocks_of c.args.set) = omega (arith, c.loop-b-test.true, blocks_held c.args.set c.requires) in
+    left_next c.args.subtracted c.args.mines.now c.args.known.now c.args.set c.requires loop.out loop.b loop.invariant inside _ (rw c.bounds_at-bounds.ensures at c.put_left-out.ensures)
+
+pub returns : goal.returns
+returns c = left_end c.args.subtracted c.args.mines.now c.args.known.now c.args.set c.requires c.loop-b.out c.loop-b.b c.loop-b.invariant (omega (arith, c.loop-b-test.false, blocks_held c.args.set c.requires))
