@@ -38,4 +38,6 @@ loop-b-preserved c =
     )
 
 pub returns : goal.returns
-returns c = chunks_end c.args.set c.requires c.loop-b.out c.loop-b.b c.loop-b.invariant.1 c.loop-b-test.false
+returns c =
+    let both = chunks_end c.args.set c.requires c.loop-b.out c.loop-b.b c.loop-b.invariant.1 c.loop-b-test.false in
+    record { value = both.0; whole = both.1 }

@@ -14,7 +14,7 @@ use borrow.Author.Rules.{rules}
 use Rattle.chunks.proofs.mark_all.Given as goal
 
 abbrev pub invariant-loop-k : goal.invariant-loop-k
-invariant-loop-k l =
-    (l.k ≤ l.len)
-    × (length l.marks ≡ 1024)
-    × ((l : List ℕ) → Marks l.initial.marks l → Towards (λ (x : List ℕ). add_new x (drop l.k (take l.len l.cells))) (add_new l (take l.len l.cells)) l l.marks l.new)
+invariant-loop-k loop =
+    (loop.k ≤ loop.len)
+    × (length loop.marks ≡ 1024)
+    × ((l : List ℕ) → Marks loop.initial.marks l → Towards (λ (x : List ℕ). add_new x (drop loop.k (take loop.len loop.cells))) (add_new l (take loop.len loop.cells)) l loop.marks loop.new)

@@ -67,4 +67,5 @@ loop-e-preserved c =
 pub returns : goal.returns
 returns c =
     let loop = c.loop-e in
-    storing_end loop.invariant.1 (place_none c.args.marks.now c.args.slots.now c.args.first loop.e c.loop-e-test.false)
+    let both = storing_end loop.invariant.1 (place_none c.args.marks.now c.args.slots.now c.args.first loop.e c.loop-e-test.false) in
+    record { value = both.0; out_after = both.1 }

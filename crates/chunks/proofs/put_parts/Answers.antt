@@ -14,6 +14,7 @@ use Rattle.chunks.specs.Splitting.{all_parts}
 use Rattle.chunks.proofs.Remaining.{parts_left, parts_start, parts_done, parts_pass, parts_first, parts_others}
 use borrow.Author.Rules.{rules}
 use Rattle.chunks.proofs.put_parts.Goals as goal
+use Rattle.chunks.proofs.put_parts.Goals.{else-done-c-ne1, then-done-c-ne1}
 
 pub loop-i-init : goal.loop-i-init
 loop-i-init c =
@@ -50,19 +51,17 @@ pub loop-i-preserved : goal.loop-i-preserved
 loop-i-preserved c =
     let loop = c.loop-i in
     let test = c.loop-i-test.true in
-    ⊎_elim
-    (λ w.
-    rw (w.7, w.8) (
-      omega arith,
-      w.6.ensures.0,
-      growing_next loop.invariant.2 c.requires.room.fits _ _
-          (parts_others c.args.cells.now c.args.slots.now c.args.rests.now c.args.bounds loop.done loop.i _ test c.wide-c.ensures (ne_eqb _ _ w.0.taken) _ (w.1.ensures c.args.rests.now) w.6.last.1.1.1.1.0 loop.invariant.0 w.6.ensures.1)
-          _ w.3.ensures,
-    ))
-    (λ w.
-    rw (w.1, w.2)
-    (omega arith, loop.invariant.1, growing_pass loop.invariant.2 _ (parts_pass c.args.cells.now c.args.slots.now c.args.rests.now c.args.bounds loop.done loop.i _ test c.wide-c.ensures (eq-eqb _ _ w.0.left))))
-    c.if-done-c-ne1.branch
+    elim c.if-done-c-ne1.branch [
+      | then-done-c-ne1 w ↦ rw (w.t-is, w.done-is) (
+        omega arith,
+        w.add_done.ensures.0,
+        growing_next loop.invariant.2 c.requires.room.fits _ _
+            (parts_others c.args.cells.now c.args.slots.now c.args.rests.now c.args.bounds loop.done loop.i _ test c.wide-c.ensures (ne_eqb _ _ w.if-done-c-ne1.true) _ (w.connected_with-marks.ensures c.args.rests.now) w.add_done.last.1.1.1.1.0 loop.invariant.0 w.add_done.ensures.1)
+            _ w.put_part-t.ensures,
+      )
+      | else-done-c-ne1 w ↦ rw (w.t-is, w.done-is)
+          (omega arith, loop.invariant.1, growing_pass loop.invariant.2 _ (parts_pass c.args.cells.now c.args.slots.now c.args.rests.now c.args.bounds loop.done loop.i _ test c.wide-c.ensures (eq-eqb _ _ w.if-done-c-ne1.false)))
+    ]
 
 pub returns : goal.returns
 returns c =

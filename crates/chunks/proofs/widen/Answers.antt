@@ -13,6 +13,7 @@ use Rattle.chunks.proofs.Looked.{look_pass, look_add}
 use Rattle.chunks.proofs.Marking.{Towards, towards_start, towards_end, towards_pass, towards_new, towards_changed}
 use borrow.Author.Rules.{rules}
 use Rattle.chunks.proofs.widen.Goals as goal
+use Rattle.chunks.proofs.widen.Goals.{else-meets_marks, then-meets_marks+else-mark_all, then-meets_marks+then-mark_all}
 
 pub loop-e-init : goal.loop-e-init
 loop-e-init c = (search rules, λ rests l h. towards_start h)
@@ -34,26 +35,22 @@ loop-e-preserved c =
     let test = c.loop-e-test.true in
     let is = c.slots_at-list.ensures in
     let met = sym c.meets_marks.ensures in
-    ⊎_elim
-    (λ w.
-    rw (w.4, w.5) (
-      w.2.ensures.whole,
-      λ rests l h.
-          towards_new (loop.invariant.1 rests l h) _ (look_add _ c.args.slots.now loop.e is rests loop.marks c.args.end test (met ∙ w.0.taken)) w.2.ensures.marks,
-    ))
-    (⊎_elim
-    (λ w.
-    rw (w.4, w.5) (
-      w.2.ensures.whole,
-      λ rests l h.
-          towards_changed (loop.invariant.1 rests l h) (look_add _ c.args.slots.now loop.e is rests loop.marks c.args.end test (met ∙ w.0.taken)) w.2.ensures w.3.left,
-    ))
-    (λ w.
-    rw (w.1, w.2) (
-      loop.invariant.0,
-      λ rests l h. towards_pass (loop.invariant.1 rests l h) (look_pass _ c.args.slots.now loop.e is rests loop.marks c.args.end test (met ∙ w.0.left)),
-    )))
-    c.if-meets_marks.branch
+    elim c.if-meets_marks.branch [
+      | then-meets_marks+then-mark_all w ↦ rw (w.marks-is, w.new-is) (
+        w.mark_all.ensures.whole,
+        λ rests l h.
+            towards_new (loop.invariant.1 rests l h) _ (look_add _ c.args.slots.now loop.e is rests loop.marks c.args.end test (met ∙ w.if-meets_marks.true)) w.mark_all.ensures.marks,
+      )
+      | then-meets_marks+else-mark_all w ↦ rw (w.marks-is, w.new-is) (
+        w.mark_all.ensures.whole,
+        λ rests l h.
+            towards_changed (loop.invariant.1 rests l h) (look_add _ c.args.slots.now loop.e is rests loop.marks c.args.end test (met ∙ w.if-meets_marks.true)) w.mark_all.ensures w.if-mark_all.false,
+      )
+      | else-meets_marks w ↦ rw (w.marks-is, w.new-is) (
+        loop.invariant.0,
+        λ rests l h. towards_pass (loop.invariant.1 rests l h) (look_pass _ c.args.slots.now loop.e is rests loop.marks c.args.end test (met ∙ w.if-meets_marks.false)),
+      )
+    ]
 
 pub returns : goal.returns
 returns c =

@@ -13,6 +13,6 @@ use borrow.Author.Rules.{rules}
 use Rattle.chunks.proofs.widen.Given as goal
 
 abbrev pub invariant-loop-e : goal.invariant-loop-e
-invariant-loop-e l =
-    (length l.marks ≡ 1024)
-    × ((rests l : List ℕ) → Marks l.initial.marks l → Towards (widened (equations_from l.slots rests l.e l.end)) (widened (equations_from l.slots rests l.first l.end) l) l l.marks l.new)
+invariant-loop-e loop =
+    (length loop.marks ≡ 1024)
+    × ((rests l : List ℕ) → Marks loop.initial.marks l → Towards (widened (equations_from loop.slots rests loop.e loop.end)) (widened (equations_from loop.slots rests loop.first loop.end) l) l loop.marks loop.new)

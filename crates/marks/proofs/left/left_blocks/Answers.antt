@@ -36,4 +36,6 @@ loop-b-preserved c =
     left_next c.args.subtracted c.args.mines.now c.args.known.now c.args.set c.requires loop.out loop.b loop.invariant inside _ (rw c.bounds_at-bounds.ensures at c.put_left-out.ensures)
 
 pub returns : goal.returns
-returns c = left_end c.args.subtracted c.args.mines.now c.args.known.now c.args.set c.requires c.loop-b.out c.loop-b.b c.loop-b.invariant (omega (arith, c.loop-b-test.false, blocks_held c.args.set c.requires))
+returns c =
+    let both = left_end c.args.subtracted c.args.mines.now c.args.known.now c.args.set c.requires c.loop-b.out c.loop-b.b c.loop-b.invariant (omega (arith, c.loop-b-test.false, blocks_held c.args.set c.requires)) in
+    record { value = both.0; whole = both.1 }

@@ -29,11 +29,11 @@ left_rest-rest-requires c = listed_on_board _ c.args.slots.now _ c.slots_at.ensu
 
 -- the remainder
 rest : (c : After-left_rest-rest) → c.left_rest-rest.result ≡ (left_at c.args.subtracted c.args.mines.now c.args.known.now c.args.slots.now c.args.rests.now c.loop-e.e).rest
-rest c = let c.before.before.before.before.before = c.before.before.before.before.before in left_rest_is c.args.subtracted c.args.mines.now c.args.known.now c.args.slots.now c.args.rests.now _ _ c.slots_at.ensures _ c.left_rest-rest.ensures
+rest c = left_rest_is c.args.subtracted c.args.mines.now c.args.known.now c.args.slots.now c.args.rests.now _ _ c.slots_at.ensures _ c.left_rest-rest.ensures
 
 -- whether the equation stays
 is : (c : After-rest_stays) → c.rest_stays.result ≡ stays c.args.subtracted (left_at c.args.subtracted c.args.mines.now c.args.known.now c.args.slots.now c.args.rests.now c.loop-e.e)
-is c = let c.before.before.before.before.before.before = c.before.before.before.before.before.before in c.rest_stays.ensures (left_at c.args.subtracted c.args.mines.now c.args.known.now c.args.slots.now c.args.rests.now c.loop-e.e) (sym (rest (goal.at.After-rest_stays c).After-left_rest-rest))
+is c = c.rest_stays.ensures (left_at c.args.subtracted c.args.mines.now c.args.known.now c.args.slots.now c.args.rests.now c.loop-e.e) (sym (rest (goal.at.After-rest_stays c).After-left_rest-rest))
 
 -- there is room for one that stays
 room : (c : Then-rest_stays) → c.loop-e.k < 1024
@@ -53,9 +53,9 @@ loop-e-preserved c =
     let test = c.loop-e-test.true in
     let stay = is (goal.at.loop-e-preserved c).After-rest_stays in
     elim c.if-rest_stays.branch [
-      then-rest_stays w ↦     rw (w.out-is, w.k-is)
-    (storing_next loop.invariant (left_kept c.args.subtracted c.args.mines.now c.args.known.now c.args.slots.now c.args.rests.now loop.e c.args.end test (sym stay ∙ w.if-rest_stays.true)) refl _
-    (ap (λ (y : ℕ). set loop.out loop.k y) (rest (goal.at.loop-e-preserved c).After-left_rest-rest) ∙ single_store loop.out loop.k (left_at c.args.subtracted c.args.mines.now c.args.known.now c.args.slots.now c.args.rests.now loop.e).rest))
+      | then-rest_stays w ↦ rw (w.out-is, w.k-is)
+          (storing_next loop.invariant (left_kept c.args.subtracted c.args.mines.now c.args.known.now c.args.slots.now c.args.rests.now loop.e c.args.end test (sym stay ∙ w.if-rest_stays.true)) refl _
+          (ap (λ (y : ℕ). set loop.out loop.k y) (rest (goal.at.loop-e-preserved c).After-left_rest-rest) ∙ single_store loop.out loop.k (left_at c.args.subtracted c.args.mines.now c.args.known.now c.args.slots.now c.args.rests.now loop.e).rest))
       | else-rest_stays w ↦ rw (w.out-is, w.k-is) (storing_pass loop.invariant (left_passed c.args.subtracted c.args.mines.now c.args.known.now c.args.slots.now c.args.rests.now loop.e c.args.end test (sym stay ∙ w.if-rest_stays.false)))
     ]
 

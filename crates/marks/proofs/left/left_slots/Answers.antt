@@ -30,7 +30,6 @@ left_rest-requires c = listed_on_board _ c.args.slots.now _ c.slots_at-list.ensu
 -- whether the equation stays
 is : (c : After-rest_stays) → c.rest_stays.result ≡ stays c.args.subtracted (left_at c.args.subtracted c.args.mines.now c.args.known.now c.args.slots.now c.args.rests.now c.loop-e.e)
 is c =
-    let c.before.before.before.before.before.before = c.before.before.before.before.before.before in
     c.rest_stays.ensures (left_at c.args.subtracted c.args.mines.now c.args.known.now c.args.slots.now c.args.rests.now c.loop-e.e) (sym (left_rest_is c.args.subtracted c.args.mines.now c.args.known.now c.args.slots.now c.args.rests.now _ _ c.slots_at-list.ensures _ c.left_rest.ensures))
 
 -- there is room for one that stays
@@ -55,9 +54,9 @@ loop-e-preserved c =
     let near = c.slots_at-list in
     let stay = is (goal.at.loop-e-preserved c).After-rest_stays in
     elim c.if-rest_stays.branch [
-      then-rest_stays w ↦     rw (w.out-is, w.k-is)
-    (storing_next loop.invariant (left_kept c.args.subtracted c.args.mines.now c.args.known.now c.args.slots.now c.args.rests.now loop.e c.args.end test (sym stay ∙ w.if-rest_stays.true)) (left_eight c.args.subtracted c.args.mines.now c.args.known.now c.args.slots.now c.args.rests.now loop.e) _
-    (w.put_slots.ensures ∙ ap (λ (l : List ℕ). sets loop.out (loop.k * 8) l) (left_list_slots c.args.subtracted c.args.mines.now c.args.known.now c.args.slots.now c.args.rests.now _ loop.e near.ensures _ w.left_list.ensures)))
+      | then-rest_stays w ↦ rw (w.out-is, w.k-is)
+          (storing_next loop.invariant (left_kept c.args.subtracted c.args.mines.now c.args.known.now c.args.slots.now c.args.rests.now loop.e c.args.end test (sym stay ∙ w.if-rest_stays.true)) (left_eight c.args.subtracted c.args.mines.now c.args.known.now c.args.slots.now c.args.rests.now loop.e) _
+          (w.put_slots.ensures ∙ ap (λ (l : List ℕ). sets loop.out (loop.k * 8) l) (left_list_slots c.args.subtracted c.args.mines.now c.args.known.now c.args.slots.now c.args.rests.now _ loop.e near.ensures _ w.left_list.ensures)))
       | else-rest_stays w ↦ rw (w.out-is, w.k-is) (storing_pass loop.invariant (left_passed c.args.subtracted c.args.mines.now c.args.known.now c.args.slots.now c.args.rests.now loop.e c.args.end test (sym stay ∙ w.if-rest_stays.false)))
     ]
 

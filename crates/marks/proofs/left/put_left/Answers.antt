@@ -29,18 +29,17 @@ begin_at-e-requires c = omega (arith, blocks_held c.args.out c.requires.room.hel
 -- there is a cell left, or a block without cells stays
 goes : (c : Joined-subtracted) → (c.args.subtracted && empty (left_cells c.args.subtracted c.args.mines.now c.args.known.now c.args.cells.now c.args.slots.now c.args.rests.now c.args.bounds)) ≡ false
 goes c =
-    let c.before.before.before.before.before.before = c.before.before.before.before.before.before in
     left_goes c.args.subtracted c.args.mines.now c.args.known.now c.args.cells.now c.args.slots.now c.args.rests.now c.args.bounds c.args.out c.requires.room _ c.begin_at-k.ensures _ c.list_cells-last.ensures.value _ c.list_cells-last.ensures.out_after (elim c.if-subtracted.branch [
-      then-subtracted+else-last-k w ↦ inl (w.if-subtracted.true, w.if-last-k.false)
+      | then-subtracted+else-last-k w ↦ inl (w.if-subtracted.true, w.if-last-k.false)
       | else-subtracted w ↦ inr w.if-subtracted.false
     ])
 
 -- so there is room for what is left
 equations : (c : After-begin_at-e) → c.begin_at-e.result + length (left_rows c.args.subtracted c.args.mines.now c.args.known.now c.args.cells.now c.args.slots.now c.args.rests.now c.args.bounds) ≤ 1024
-equations c = let c.before.before.before.before.before.before.before.before.before = c.before.before.before.before.before.before.before.before.before in left_equations_fit c.args.subtracted c.args.mines.now c.args.known.now c.args.cells.now c.args.slots.now c.args.rests.now c.args.bounds c.args.out c.requires.room _ c.begin_at-k.ensures _ c.list_cells-last.ensures.value _ c.list_cells-last.ensures.out_after (goes (goal.at.After-begin_at-e c).Joined-subtracted) _ c.begin_at-e.ensures
+equations c = left_equations_fit c.args.subtracted c.args.mines.now c.args.known.now c.args.cells.now c.args.slots.now c.args.rests.now c.args.bounds c.args.out c.requires.room _ c.begin_at-k.ensures _ c.list_cells-last.ensures.value _ c.list_cells-last.ensures.out_after (goes (goal.at.After-begin_at-e c).Joined-subtracted) _ c.begin_at-e.ensures
 
 room : (c : After-left_rests) → Room c.args.out (left_whole c.args.subtracted c.args.mines.now c.args.known.now c.args.cells.now c.args.slots.now c.args.rests.now c.args.bounds ∷ [])
-room c = let c.before.before.before.before.before.before.before.before.before.before.before.before.before = c.before.before.before.before.before.before.before.before.before.before.before.before.before in left_room c.args.subtracted c.args.mines.now c.args.known.now c.args.cells.now c.args.slots.now c.args.rests.now c.args.bounds c.args.out c.requires.room _ c.begin_at-k.ensures _ c.list_cells-last.ensures.value _ c.list_cells-last.ensures.out_after (goes (goal.at.After-left_rests c).Joined-subtracted)
+room c = left_room c.args.subtracted c.args.mines.now c.args.known.now c.args.cells.now c.args.slots.now c.args.rests.now c.args.bounds c.args.out c.requires.room _ c.begin_at-k.ensures _ c.list_cells-last.ensures.value _ c.list_cells-last.ensures.out_after (goes (goal.at.After-left_rests c).Joined-subtracted)
 
 pub left_slots-next-requires : goal.left_slots-next-requires
 left_slots-next-requires c = record { slots = c.requires.arrays.in_slots; out_len = slots_long c.args.out c.requires.room.held; end_bound = equations (goal.at.left_slots-next-requires c).After-begin_at-e }

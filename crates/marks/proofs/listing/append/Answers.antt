@@ -7,7 +7,7 @@ use Rattle.marks.proofs.HeldLists.{list_appended}
 use Rattle.marks.proofs.listing.append.Goals as goal
 
 pub put_list-requires : goal.put_list-requires
-put_list-requires c = let long : length c.args.first.cells ≡ 1024 = search (rules, c.well-formed) in record { count_bound = (omega (arith, c.requires), omega (arith, c.requires, long)); list_len = search rules }
+put_list-requires c = let long : length c.args.first.cells ≡ 1024 = search (rules, c.well_formed) in record { count_bound = (omega (arith, c.requires), omega (arith, c.requires, long)); list_len = search rules }
 
 pub returns : goal.returns
 returns c = list_appended c.args.first c.args.second c.requires _ c.put_list.ensures

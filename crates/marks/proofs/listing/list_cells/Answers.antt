@@ -52,4 +52,5 @@ loop-i-preserved c =
 pub returns : goal.returns
 returns c =
     let loop = c.loop-i in
-    run_end loop.invariant (listed_none c.args.marks.now c.args.mark c.args.cells.now loop.i c.args.end c.loop-i-test.false)
+    let both = run_end loop.invariant (listed_none c.args.marks.now c.args.mark c.args.cells.now loop.i c.args.end c.loop-i-test.false) in
+    record { value = both.0; out_after = both.1 }

@@ -1,0 +1,14 @@
+use Prim.Native.Nat.{◌-◌, ◌≤◌}
+use mathlib.Core.Path.{◌∙◌, ap}
+use native.Mathlib.Omega.{arith}
+use borrow.Author.Rules.{rules}
+use Rattle.patterns.specs.Shapes.{mine_mark}
+use Rattle.grid.specs.Cells.{cell_of}
+use Rattle.patterns.proofs.FilledRows.{Filled, filled_start, filled_put, filled_row, filled_laid}
+use Rattle.patterns.proofs.lay.Given as goal
+
+abbrev pub invariant-loop-column : goal.invariant-loop-column
+invariant-loop-column l = Filled l.rows l.columns l.cells l.row l.column l.board × (l.column ≤ l.columns)
+
+abbrev pub invariant-loop-row : goal.invariant-loop-row
+invariant-loop-row l = Filled l.rows l.columns l.cells l.row 0 l.board × (l.row ≤ l.rows)

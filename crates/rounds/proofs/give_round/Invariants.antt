@@ -1,0 +1,8 @@
+use Prim.Native.Nat.{◌-◌}
+use native.Mathlib.Omega.{arith}
+use borrow.Author.Rules.{rules}
+use Rattle.rounds.proofs.GivenRounds.{Made, made_first, given, given_here, all_given}
+use Rattle.rounds.proofs.give_round.Given as goal
+
+abbrev pub invariant-loop-c : goal.invariant-loop-c
+invariant-loop-c l = Made (given l.round l.position l.initial.opened_in) l.initial.opened_in l.opened_in l.c
