@@ -69,7 +69,8 @@ module _ {order : List ℕ} {groups equations : ℕ} {sizes columns : List ℕ} 
   tree_values to e =
       let all_values : suc (get_or sizes g 0) ≡ suc to - 0 = omega arith in
       ap (λ (gs : List ℕ). tree (λ (x : ℕ). get_or sizes x 0) (slot_cells columns) gs needs rooms) (unset_more h)
-      ∙ rw (← all_values, h.is)
+      ∙ ap (λ (x : ℕ). branches (λ (y : ℕ). get_or sizes y 0) (slot_cells columns) (tree (λ (y : ℕ). get_or sizes y 0) (slot_cells columns) (unset order groups (at + 1))) x 0 (suc (get_or sizes g 0)) needs rooms) h.is
+      ∙ ap (λ (n : ℕ). branches (λ (y : ℕ). get_or sizes y 0) (slot_cells columns) (tree (λ (y : ℕ). get_or sizes y 0) (slot_cells columns) (unset order groups (at + 1))) (get_or order at 0) 0 n needs rooms) all_values
 
   module _ (v to : ℕ) where
     pub from_none : to < v → tree_from order groups sizes columns at v (suc to - v) needs rooms ≡ []

@@ -64,17 +64,17 @@ loop-c-preserved c =
     let past = flooded_past near cells ok (few (goal.at.loop-c-preserved c).Start) l.c l.position l.found l.invariant.0 in
     elim c.if-cells-c-eq0.branch [
       | then-cells-c-eq0+then-position-c-eq10 w ↦ let after : c.if-cells-c-eq0.position ≡ open_cells near cells l.position (l.c ∷ []) =
-          w.found-is ∙ w.position-1.ensures ∙ ap (open_cells near cells l.position) (one_listed l.from l.c l.invariant.3) in (
-            rw (after, w.10) (first w.if-cells-c-eq0.true (get_d_any l.position l.c 255 0 within ∙ w.refresh_board-arg-1.true)),
+          w.position-is ∙ w.refresh_board.ensures ∙ ap (open_cells near cells l.position) (one_listed l.from l.c l.invariant.3) in (
+            rw (after, w.found-is) (first w.if-cells-c-eq0.true (get_d_any l.position l.c 255 0 within ∙ w.if-position-c-eq10.true)),
             omega arith,
             omega arith,
-            ap length w.9 ∙ length-set l.from 0 l.c ∙ l.invariant.3,
+            ap length w.from-is ∙ length-set l.from 0 l.c ∙ l.invariant.3,
           )
       | then-cells-c-eq0+else-position-c-eq10 w ↦ (
-        rw (w.from-is, w.5) (later w.if-cells-c-eq0.true (λ e. w.position-is.false (get_d_any l.position l.c 0 255 within ∙ e))),
+        rw (w.position-is, w.found-is) (later w.if-cells-c-eq0.true (λ e. w.if-position-c-eq10.false (get_d_any l.position l.c 0 255 within ∙ e))),
         omega arith,
         omega arith,
-        ap length w.found-is ∙ l.invariant.3,
+        ap length w.from-is ∙ l.invariant.3,
       )
       | else-cells-c-eq0 w ↦ (rw (w.position-is, w.found-is) (past w.if-cells-c-eq0.false), omega arith, omega arith, ap length w.from-is ∙ l.invariant.3)
     ]

@@ -54,9 +54,9 @@ loop-i-preserved c =
     elim c.if-done-c-ne1.branch [
       | then-done-c-ne1 w ↦ rw (w.t-is, w.done-is) (
         omega arith,
-        w.add_done.ensures.0,
+        w.add_done.ensures.done_len_2,
         growing_next loop.invariant.2 c.requires.room.fits _ _
-            (parts_others c.args.cells.now c.args.slots.now c.args.rests.now c.args.bounds loop.done loop.i _ test c.wide-c.ensures (ne_eqb _ _ w.if-done-c-ne1.true) _ (w.connected_with-marks.ensures c.args.rests.now) w.add_done.last.1.1.1.1.0 loop.invariant.0 w.add_done.ensures.1)
+            (parts_others c.args.cells.now c.args.slots.now c.args.rests.now c.args.bounds loop.done loop.i _ test c.wide-c.ensures (ne_eqb _ _ w.if-done-c-ne1.true) _ (w.connected_with-marks.ensures c.args.rests.now) w.add_done.new.done loop.invariant.0 w.add_done.ensures.by_index)
             _ w.put_part-t.ensures,
       )
       | else-done-c-ne1 w ↦ rw (w.t-is, w.done-is)

@@ -42,7 +42,7 @@ loop-b-preserved c =
     let put = rw (c.wide.ensures, c.begin_at-first.ensures) at c.list_cells-k.ensures in
     let last = cells_with c.args.marks.now 1 c.args.cells.now (begin_at c.args.cell_ends.now (loop.b - 1)) (get_or c.args.cell_ends.now (loop.b - 1) 0) in
     let before = all_with c.args.marks.now c.args.cells.now c.args.cell_ends.now (loop.b - 1) in
-    (omega (arith, loop.invariant.0), run_next loop.invariant.1 last before (all_last c.args.marks.now c.args.cells.now c.args.cell_ends.now loop.b test) _ put.1 _ put.0)
+    (omega (arith, loop.invariant.0), run_next loop.invariant.1 last before (all_last c.args.marks.now c.args.cells.now c.args.cell_ends.now loop.b test) _ put.out_after _ put.value)
 
 pub returns : goal.returns
 returns c =
