@@ -2,7 +2,7 @@
  * inputs are the largest: positions of one block with many groups, whose one solution lies as deep as there are groups, and boards of many densities, judged
  * without their mine total and with it.
  *
- *     cc -O2 -pthread -o target/library/stack library/stack.c target/staticlib/libexport.a && target/library/stack */
+ *     cc -O2 -pthread -o target/library/stack library/stack.c crates/export/out/libexport.a && target/library/stack */
 #define _GNU_SOURCE
 #include "lihvompa.h"
 #include <pthread.h>

@@ -1,5 +1,5 @@
 #!/usr/bin/env python3
-"""Stored records carried over, as a second program beside target/bin/migrate, written from the words and not from our code: a start of 255,255 meant the first 0
+"""Stored records carried over, as a second program beside the program migrate, written from the words and not from our code: a start of 255,255 meant the first 0
 in reading order, and becomes it; no other byte changes. The mark 4D 42 is the only one, for ever: from an unknown mark or a short record on the rest of the
 input is copied. Run as a program it reads standard input and writes standard output."""
 import sys
