@@ -35,14 +35,18 @@ pub fn lists_of(found: RuleAnswer) -> Lists
 pub fn contradiction() -> RuleAnswer
     ensures { result ≡ rule_answer contradicted }
 {
-    let none = CellList {
+    let safe = CellList {
+        cells: [0; 1024],
+        count: 0,
+    };
+    let mines = CellList {
         cells: [0; 1024],
         count: 0,
     };
     RuleAnswer {
         contradiction: true,
-        safe: none,
-        mines: none,
+        safe,
+        mines,
         left: empty_set(),
     }
 }

@@ -58,7 +58,7 @@ put_rows-put_values-requires t c =
     let here = put_rows_here t (goal.at.put_rows-put_values-requires t c).After-wide in
     let small = group_small here in
     let fits = rw (tree_values here c.args.needs.now c.args.rooms.now _ refl) at c.requires.groups_in_bounds in
-    (omega (arith, c.requires.MEASURE, here.inside), (c.requires.ordered, (c.requires.state, ((here.inside, small, c.requires.at_le_groups.2), fits))))
+    (omega (arith, here.inside), (c.requires.ordered, (c.requires.state, ((here.inside, small, c.requires.at_le_groups.2), fits))))
 
 pub put_rows-returns : goal.put_rows-returns
 put_rows-returns t c =
@@ -97,7 +97,7 @@ passed t c =
 pub put_values-put_values-requires : goal.put_values-put_values-requires
 put_values-put_values-requires t c =
     let fits = rw (passed t (goal.at.put_values-put_values-requires t c).Then-not-possible) at c.requires.groups_in_bounds in
-    (omega (arith, c.requires.MEASURE, c.if-to-v.false), (c.requires.ordered, (c.requires.state, (c.requires.at_lt_groups, fits))))
+    (omega (arith, c.if-to-v.false), (c.requires.ordered, (c.requires.state, (c.requires.at_lt_groups, fits))))
 
 pub put_values-returns-then-not-possible : goal.put_values-returns-then-not-possible
 put_values-returns-then-not-possible t c =
@@ -135,7 +135,7 @@ put_values-put_rows-next-requires t c =
     let some : 0 < c.args.groups = omega (arith, k.here.inside) in
     let long = length-set c.args.values.now c.wide-g.result c.args.v ∙ c.requires.at_lt_groups.2 in
     let fits = room_first k c.lower.ensures c.lower-2.ensures c.args.row c.args.table.now c.requires.groups_in_bounds in
-    (omega (arith, c.requires.MEASURE, k.here.inside, k.within), (c.requires.ordered, (state_below t (goal.at.put_values-put_rows-next-requires t c).After-lower-2, ((more, some, long), fits))))
+    (omega (arith, k.here.inside, k.within), (c.requires.ordered, (state_below t (goal.at.put_values-put_rows-next-requires t c).After-lower-2, ((more, some, long), fits))))
 
 pub put_values-raise-requires : goal.put_values-raise-requires
 put_values-raise-requires t c =
@@ -164,9 +164,9 @@ put_values-put_values-requires-2 t c =
     let same = back t (goal.at.put_values-put_values-requires-2 t c).After-raise-2 in
     let e = c.put_rows-next.ensures in
     let long = e.kept.whole ∙ length-set c.args.values.now c.wide-g.result c.args.v ∙ c.requires.at_lt_groups.2 in
-    let kept = c.put_rows-next.auto.1.1.1.1.1.1.1.1.1.0 in
+    let kept = c.put_rows-next.auto.table in
     let fits = room_next k c.lower.ensures c.lower-2.ensures c.args.row c.args.table.now c.requires.groups_in_bounds _ c.put_rows-next.new.table e.value kept same.0 same.1 in
-    (omega (arith, c.requires.MEASURE, k.within), (c.requires.ordered, (state_same k.state same.0 same.1, ((k.here.inside, c.requires.at_lt_groups.1, long), fits))))
+    (omega (arith, k.within), (c.requires.ordered, (state_same k.state same.0 same.1, ((k.here.inside, c.requires.at_lt_groups.1, long), fits))))
 
 pub put_values-returns : goal.put_values-returns
 put_values-returns t c =

@@ -1,0 +1,18 @@
+use Prim.Native.Nat.{◌≤◌}
+use mathlib.Core.Path.{sym}
+use native.Mathlib.Omega.{arith}
+use borrow.Author.Rules.{rules}
+use Rattle.blocks.specs.Places.{OnBoard, equations_from}
+use Rattle.blocks.proofs.Between.{listed_on_board}
+use Rattle.direct.specs.Direct.{sure_mines, sure_safe}
+use Rattle.direct.proofs.Sweeps.{Sweeping, sweeping_end, sweeping_given, sweeping_passed, equations_back, equations_before, none_left, other_cells, safe_asked_of_all, counted_few, asked_none_left, asked_some_left, added_others}
+use Rattle.direct.proofs.direct.sweep_safe.Given as goal
+
+abbrev pub invariant-loop-e : goal.invariant-loop-e
+invariant-loop-e l =
+    (l.e ≤ l.equations)
+    × Sweeping (other_cells (sure_mines (equations_from l.slots l.rests 0 l.equations))) (none_left (sure_mines (equations_from l.slots l.rests 0 l.equations)))
+    (sure_safe (equations_from l.slots l.rests 0 l.equations)) l.marks l.out l.n (equations_from l.slots l.rests 0 l.e)
+
+abbrev pub decreases-loop-e : goal.decreases-loop-e
+decreases-loop-e l = l.e
