@@ -1,6 +1,6 @@
 // replay: runs the stored answers in data/, one file for each call, in which a line that is asked and the line that was answered follow each other. They are the
 // Rust's; those of total, a call that the Rust has not, are of another judge, written from the definition alone. It names each case whose answer differs, and says how
-// many agree. Last it runs eighteen answers that are wrong on purpose, and says how many of them it took for right.
+// many agree. Last it runs fifteen answers that are wrong on purpose, and says how many of them it took for right.
 #![tactic(auto)]
 
 ghost use Rattle.std.specs.Prelude.{◌≡◌, ◌+◌, ◌≤◌, ◌<◌, length};
@@ -285,7 +285,6 @@ fn run_wrong(rt: &HostRuntime) {
     s = run_file(rt, Call::Enumerate, "wrong_enumerate", s);
     s = run_file(rt, Call::Table, "wrong_table", s);
     s = run_file(rt, Call::Pattern, "wrong_pattern", s);
-    s = run_file(rt, Call::Bbbv, "wrong_bbbv", s);
     s = run_file(rt, Call::Verdict, "wrong_verdict", s);
     s = run_file(rt, Call::Total, "wrong_total", s);
     let _ = print!(rt; "control: ");
@@ -299,7 +298,6 @@ fn main(rt: HostRuntime) {
     run_call(&rt, Call::Enumerate, "enumerate");
     run_call(&rt, Call::Table, "table");
     run_call(&rt, Call::Pattern, "pattern");
-    run_call(&rt, Call::Bbbv, "bbbv");
     run_call(&rt, Call::Verdict, "verdict");
     run_call(&rt, Call::Total, "total");
     run_wrong(&rt);
