@@ -21,13 +21,13 @@ use text::put_bytes;
 // `safe 1,5 mine 5 pos 0 12 0 1 1 11`
 fn put_found(
     out: &mut [u8],
-    answer: DeductionAnswer,
+    answer: &DeductionAnswer,
     position: &[u8],
     safe: &[u16],
     mines: &[u16],
 ) -> usize
-    requires { Readable (seen answer position.now safe.now mines.now) }
-    ensures { Written out.old 0 (found_text (seen answer position.now safe.now mines.now)) out.new result }
+    requires { Readable (seen answer.now position.now safe.now mines.now) }
+    ensures { Written out.old 0 (found_text (seen answer.now position.now safe.now mines.now)) out.new result }
 {
     let mut at = put_bytes(out, 0, b"safe ");
     at = put_numbers(out, at, safe, 0, answer.safe);
@@ -78,7 +78,7 @@ fn put_deduction(
     match tested {
         Tested::Refused(refusal) => put_refused(out, refusal),
         Tested::Accepted => {
-            let at = put_found(out, answer, position, safe, mines);
+            let at = put_found(out, &answer, position, safe, mines);
             let left = answer.blocks;
             put_left(out, at, rule, left)
         }

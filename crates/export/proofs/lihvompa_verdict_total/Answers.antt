@@ -1,0 +1,9 @@
+-- `export::lihvompa_verdict_total` meets its contract: the number and the counts are those of the answer of `is_solvable_total`. Demand 3 is that of `is_solvable_total`, of the first two
+-- counts. Rests on `Returning` and `CountedVerdict`. Assumes nothing.
+use Rattle.export.proofs.Returning.{verdict_returned_lem}
+use Rattle.export.proofs.CountedVerdict.{counted_demand_3}
+use borrow.Author.Rules.{rules}
+use Rattle.export.proofs.lihvompa_verdict_total.Goals as goal
+
+pub returns : goal.returns
+returns c = let counts = c.args.counts.now in record { counts_after = verdict_returned_lem counts c.is_solvable_total-verdict.ensures.opened_in_after c.put_verdict.ensures.0 c.put_verdict.ensures.1; demand3among = λ accepted room. counted_demand_3 counts c.is_solvable_total-verdict.result (c.is_solvable_total-verdict.ensures.meets_demand3total accepted) c.put_verdict.ensures.1 room }
