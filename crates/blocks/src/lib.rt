@@ -14,7 +14,7 @@ use grid::window::{UpToEight, wide};
 // In a slot for a cell: no cell.
 pub const NO_CELL: u16 = 65535;
 
-#[derive(Drop)]
+#[derive(Clone, Copy)]
 pub struct BlockSet {
     // The blocks' cells, block after block.
     pub cells: [u16; 1024],

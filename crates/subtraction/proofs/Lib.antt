@@ -10,7 +10,7 @@ pub mod SetPlaces
 pub mod MarkedSoFar
 pub mod Pairs
 pub mod MinusMarks
-pub mod OwnLists
+pub mod MarkedLists
 pub mod MinusAnswer
 pub mod SweptLeft
 pub mod MinusLists

@@ -3,7 +3,7 @@
 use mathlib.Core.Path.{◌≡◌, refl, sym, ap, ◌∙◌}
 use mathlib.Core.Logic.{inl, inr}
 use mathlib.Core.Bool.{Bool, true, false, cond, ◌&&◌}
-use mathlib.Core.List.{List, [], ◌∷◌, Memᴰ}
+use mathlib.Core.List.{List, [], ◌∷◌, map, Memᴰ}
 use Prim.Native.Nat.{ℕ, ◌+◌, ◌-◌, ◌*◌, ◌≤◌, ◌<◌}
 use native.Mathlib.Omega.{arith}
 use native.Mathlib.Decide.{dec_lt}
@@ -25,7 +25,7 @@ use Rattle.blocks.proofs.ProperBlocks.{Proper}
 use Rattle.groups.specs.Grouping.{Combinable}
 use Rattle.groups.proofs.GroupLaws.{combinable_proper}
 use Rattle.frontier.specs.Frontier.{frontier, inside_cells}
-use Rattle.totals.specs.Totals.{possible_count, up_to, sums_to, mines_left, allowed_count, some_mine, some_free}
+use Rattle.totals.specs.Totals.{possible_count, up_to, sums_to, mines_left, others_than, allowed_count, some_mine, some_free}
 use Rattle.totals.specs.Joining.{counts_at, counts_but, EndsInOrder, SumsAre}
 use Rattle.totals.proofs.BlockCounts.{possible_at_most}
 use Rattle.total_rule.specs.Cells.{Copied}
@@ -145,7 +145,9 @@ module _ {s : BlockSet} (w : Whole s) (combinable : (b : Block) → Memᴰ b (bl
         ∙ ap (λ (b : Bool). leb t rest && b)
         (joined.at (rest - t) (omega arith) ∙ ap (λ (n : ℕ). sums_to (up_to free ∷ counts_but counts s.cell_ends i n) (rest - t)) (blocks_held s w)
         ∙ sums_others bs s.cell_ends counts held i inside free (rest - t))
-        ∙ rw (is, is_free, is_rest)
+        ∙ ap (λ (q : List Block). leb t rest && sums_to (up_to free ∷ map possible_count (others_than i q)) (rest - t)) is
+        ∙ ap (λ (n : ℕ). leb t rest && sums_to (up_to n ∷ map possible_count (others_than i (frontier near p))) (rest - t)) is_free
+        ∙ ap (λ (n : ℕ). leb t n && sums_to (up_to (inside_cells near p) ∷ map possible_count (others_than i (frontier near p))) (n - t)) is_rest
 
     -- where all of the block's own are left
     pub left_each : ((t : ℕ) → counts_at counts s.cell_ends i t ≡ true → eqb (get_or allowed t 0) 1 ≡ true) → (t : ℕ) → possible_count (block_there bs i) t ≡ true → allowed_count near p total i t ≡ true

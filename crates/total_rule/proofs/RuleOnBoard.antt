@@ -1,6 +1,6 @@
 -- The fourth rule on a board of rows and columns: what is known of the blocks that are read, how small the numbers are, and what the lists are that the three steps
 -- leave. Rests on FoundByTotal and on what is known of the neighbours. Assumes nothing.
-use mathlib.Core.Path.{◌≡◌, ap, ◌∙◌}
+use mathlib.Core.Path.{◌≡◌, ap, ◌∙◌, subst}
 use mathlib.Core.Bool.{Bool, true, ◌&&◌}
 use mathlib.Core.List.{List, ◌∷◌}
 use Prim.Native.Nat.{ℕ, ◌-◌, ◌*◌, ◌≤◌, ◌<◌}
@@ -92,13 +92,27 @@ module _ (edgeless : Bool) (rows columns : ℕ) (p : List ℕ) (board : Board p 
       abbrev inner : ℕ → Bool
       inner n = sums_to (up_to (inside - 1) ∷ counts_but counts set.cell_ends set.blocks set.blocks) n
 
+      -- as it is defined at the position
+      inner_same : (n : ℕ) → inner n ≡ inner_sums near p counts set.cell_ends n
+      inner_same n =
+          ap (λ (k : ℕ). sums_to (up_to (k - 1) ∷ counts_but counts set.cell_ends set.blocks set.blocks) n) is_inside_lem
+          ∙ ap (λ (k : ℕ). sums_to (up_to (inside_cells near p - 1) ∷ counts_but counts set.cell_ends k k) n) many
+
+      inner_one_less : (leb 1 rest && inner (rest - 1)) ≡ (leb 1 (mines_left total p) && inner_sums near p counts set.cell_ends (mines_left total p - 1))
+      inner_one_less =
+          ap (λ (n : ℕ). leb 1 n && inner (n - 1)) is_rest
+          ∙ ap (λ (b : Bool). leb 1 (mines_left total p) && b) (inner_same (mines_left total p - 1))
+
+      inner_all : inner rest ≡ inner_sums near p counts set.cell_ends (mines_left total p)
+      inner_all = ap inner is_rest ∙ inner_same (mines_left total p)
+
       pub rule_safe : {shown joined mined : List ℕ} → CellsTold (blocks_of set) (length (blocks_of set)) (mine_shown (blocks_of set)) (replicate 1024 2) shown
           → Stages mine_stage mine_shown set inside rest shown joined (length (blocks_of set))
           → (0 < inside → Filled (bit (leb 1 rest && inner (rest - 1))) joined mined) → (inside ≡ 0 → mined ≡ joined)
           → keep (λ c. is_closed p c && eqb (get_or mined c 0) 0) (range 0 (length p)) ≡ (forced_cells near (of_total total) 5 p).safe
       rule_safe {shown} {joined} {mined} first stages filled kept =
           board_safe counts set.cell_ends (rw blocks_are at held) (rw blocks_are at (stages near p (replicate 1024 2) total blocks_are is_inside_lem is_rest first))
-          (λ h. rw (is_inside_lem, is_rest, many) at (filled (rw is_inside_lem h))) (λ h. kept (is_inside_lem ∙ h))
+          (λ h. subst (λ (b : Bool). Filled (bit b) joined mined) inner_one_less (filled (rw is_inside_lem h))) (λ h. kept (is_inside_lem ∙ h))
 
       pub rule_mines : {shown joined unfilled : List ℕ} → CellsTold (blocks_of set) (length (blocks_of set)) (free_shown (blocks_of set)) (replicate 1024 2) shown
           → Stages free_stage free_shown set inside rest shown joined (length (blocks_of set))
@@ -106,4 +120,4 @@ module _ (edgeless : Bool) (rows columns : ℕ) (p : List ℕ) (board : Board p 
           → keep (λ c. is_closed p c && eqb (get_or unfilled c 0) 0) (range 0 (length p)) ≡ (forced_cells near (of_total total) 5 p).mines
       rule_mines {shown} {joined} {unfilled} first stages filled kept =
           board_mines counts set.cell_ends (rw blocks_are at held) (rw blocks_are at (stages near p (replicate 1024 2) total blocks_are is_inside_lem is_rest first))
-          (λ h. rw (is_inside_lem, is_rest, many) at (filled (rw is_inside_lem h))) (λ h. kept (is_inside_lem ∙ h))
+          (λ h. subst (λ (b : Bool). Filled (bit b) joined unfilled) inner_all (filled (rw is_inside_lem h))) (λ h. kept (is_inside_lem ∙ h))

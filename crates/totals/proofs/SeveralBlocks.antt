@@ -23,7 +23,7 @@ use Rattle.blocks.proofs.ProperBlocks.{Proper, block_cell, Solves}
 use Rattle.blocks.proofs.Reading.{no_block}
 use Rattle.frontier.proofs.JoinedBlocks.{SolvesEach, same_solves, on_cells}
 use Rattle.totals.specs.Totals.{possible_count, sums_to, others_than}
-use Rattle.totals.proofs.SumsOfSets.{sums_more, none_sums, more_sums}
+use Rattle.totals.proofs.SumsOfSets.{sums_equal, sums_more, none_sums, more_sums}
 use Rattle.totals.proofs.BlockCounts.{solution_possible, possible_solution}
 
 -- each of some blocks is as it should be
@@ -76,7 +76,7 @@ pub solutions_sum : (bs : List Block) → ProperEach bs → (f : ℕ → Bool) �
     → sums_to (map possible_count bs) (count f (all_cells bs)) ≡ true
 solutions_sum [] each f s = refl
 solutions_sum (b ∷ bs) each f s =
-    rw (count_append f b.cells (all_cells bs))
+    sums_equal (map possible_count (b ∷ bs)) (sym (count_append f b.cells (all_cells bs)))
     (sums_more (possible_count b) (map possible_count bs) (count f b.cells) (count f (all_cells bs))
     (solution_possible b (each b (Memᴰ.head refl)) f (s b (Memᴰ.head refl)))
     (solutions_sum bs (λ x m. each x (Memᴰ.tail m)) f (λ x m. s x (Memᴰ.tail m))))

@@ -21,6 +21,10 @@ use Rattle.totals.specs.Totals.{sums_to}
 pub none_sums : (n : ℕ) → sums_to [] n ≡ true → n ≡ 0
 none_sums n h = eqb-true n 0 h
 
+-- what adds up to a number adds up to one that is equal
+pub sums_equal : (ss : List (ℕ → Bool)) {m n : ℕ} → m ≡ n → sums_to ss m ≡ true → sums_to ss n ≡ true
+sums_equal ss e h = sym (ap (sums_to ss) e) ∙ h
+
 module _ (s : ℕ → Bool) (ss : List (ℕ → Bool)) where
   -- a number of the first set, and what numbers of the others add up to
   pub sums_more : (t r : ℕ) → s t ≡ true → sums_to ss r ≡ true → sums_to (s ∷ ss) (t + r) ≡ true
@@ -40,7 +44,7 @@ pub sums_one : (s : ℕ → Bool) (n : ℕ) → sums_to (s ∷ []) n ≡ s n
 sums_one s n =
     same_test (sums_to (s ∷ []) n) (s n)
     (λ h. let (t, r, k, l, e) = more_sums s [] n h in let same : n ≡ t = omega (arith, none_sums r l) in rw same k)
-    (λ h. let same : n + 0 ≡ n = omega arith in rw same at (sums_more s [] n 0 h refl))
+    (λ h. let same : n + 0 ≡ n = omega arith in sums_equal (s ∷ []) same (sums_more s [] n 0 h refl))
 
 -- ---- what the first set has
 
@@ -68,7 +72,7 @@ module _ (s : ℕ → Bool) (ss : List (ℕ → Bool)) (n : ℕ) where
         there h = let (t, r, k, l, e) = more_sums u ss n h in go t r l e (or_cases (s t) (eqb t d) (sym (more t) ∙ k))
           where
             go : (t r : ℕ) → sums_to ss r ≡ true → t + r ≡ n → (s t ≡ true) ⊎ (eqb t d ≡ true) → ((leb d n && sums_to ss (n - d)) || sums_to (s ∷ ss) n) ≡ true
-            go t r l e (inl k) = or_right (leb d n && sums_to ss (n - d)) (sums_to (s ∷ ss) n) (rw e at (sums_more s ss t r k l))
+            go t r l e (inl k) = or_right (leb d n && sums_to ss (n - d)) (sums_to (s ∷ ss) n) (sums_equal (s ∷ ss) e (sums_more s ss t r k l))
             go t r l e (inr k) =
                 let same : n - d ≡ r = omega (arith, eqb-true t d k) in
                 or_left (leb d n && sums_to ss (n - d)) (sums_to (s ∷ ss) n) (rw (le-leb d n (omega (arith, eqb-true t d k)), same) l)
@@ -79,10 +83,10 @@ module _ (s : ℕ → Bool) (ss : List (ℕ → Bool)) (n : ℕ) where
             go : ((leb d n && sums_to ss (n - d)) ≡ true) ⊎ (sums_to (s ∷ ss) n ≡ true) → sums_to (u ∷ ss) n ≡ true
             go (inl k) =
                 let same : d + (n - d) ≡ n = omega (arith, leb-true d n (and_left (leb d n) (sums_to ss (n - d)) k)) in
-                rw same at (sums_more u ss d (n - d) (more d ∙ or_right (s d) (eqb d d) (eq-eqb d d refl)) (and_right (leb d n) (sums_to ss (n - d)) k))
+                sums_equal (u ∷ ss) same (sums_more u ss d (n - d) (more d ∙ or_right (s d) (eqb d d) (eq-eqb d d refl)) (and_right (leb d n) (sums_to ss (n - d)) k))
             go (inr k) =
                 let (t, r, w, l, e) = more_sums s ss n k in
-                rw e at (sums_more u ss t r (more t ∙ or_left (s t) (eqb t d) w) l)
+                sums_equal (u ∷ ss) e (sums_more u ss t r (more t ∙ or_left (s t) (eqb t d) w) l)
 
 -- ---- the order of the sets
 
@@ -91,8 +95,8 @@ sums_swapped : (s t : ℕ → Bool) (ss : List (ℕ → Bool)) (n : ℕ) → sum
 sums_swapped s t ss n h =
     let (a, q, x, k, e) = more_sums s (t ∷ ss) n h in
     let (b, r, y, l, w) = more_sums t ss q k in
-    let same : n ≡ b + (a + r) = omega arith in
-    rw same (sums_more t (s ∷ ss) b (a + r) y (sums_more s ss a r x l))
+    let same : b + (a + r) ≡ n = omega arith in
+    sums_equal (t ∷ (s ∷ ss)) same (sums_more t (s ∷ ss) b (a + r) y (sums_more s ss a r x l))
 
 -- a set goes to the front: the order of the sets does not matter
 pub sums_moved : (ss : List (ℕ → Bool)) (s : ℕ → Bool) (ts : List (ℕ → Bool)) (n : ℕ) → sums_to (ss ++ (s ∷ ts)) n ≡ sums_to (s ∷ (ss ++ ts)) n

@@ -32,7 +32,7 @@ use Rattle.frontier.proofs.JoinedBlocks.{SolvesEach, on_cells}
 use Rattle.search.specs.Solutions.{sum, solutions}
 use Rattle.search.proofs.GroupRows.{solution_listed}
 use Rattle.totals.specs.Totals.{possible_count, up_to, sums_to, is_inside, mines_left, others_than, allowed_count, some_mine, some_free, inside_mine, inside_free}
-use Rattle.totals.proofs.SumsOfSets.{sums_more, more_sums}
+use Rattle.totals.proofs.SumsOfSets.{sums_equal, sums_more, more_sums}
 use Rattle.totals.proofs.ChosenNumbers.{chosen, count_rest, length_rest, chosen_with}
 use Rattle.totals.proofs.BlockCounts.{SolutionWith, row_of, row_sum, mine_in_row, free_in_row, row_mine, row_free}
 use Rattle.totals.proofs.SeveralBlocks.{ProperEach, joined_own, joined_others, joined_count, solutions_sum, sum_solutions, there_or_other, other_listed, cells_there_and_others}
@@ -148,10 +148,11 @@ module _ (near : ℕ → List ℕ) (p : List ℕ) (once : (c : ℕ) → nodup (n
           count_append (mine_at m) block.cells (all_cells others),
         ) in
         let rest : mines_left total p - t ≡ u + r = omega arith in
-        rw (le-leb t (mines_left total p) (omega arith), rest)
+        rw (le-leb t (mines_left total p) (omega arith))
+        (sums_equal (up_to (inside_cells near p) ∷ map possible_count others) (sym rest)
         (sums_more (up_to (inside_cells near p)) (map possible_count others) u r few_inside
         (solutions_sum others others_proper (mine_at m)
-        (λ b k. fits_solves_block near p once few b (other_listed (frontier near p) i within b k) m f)))
+        (λ b k. fits_solves_block near p once few b (other_listed (frontier near p) i within b k) m f))))
       where
         t : ℕ
         t = count (mine_at m) block.cells
@@ -234,7 +235,7 @@ module _ (near : ℕ → List ℕ) (p : List ℕ) (once : (c : ℕ) → nodup (n
         → sums_to (up_to (inside_cells near p - 1) ∷ map possible_count (frontier near p)) n ≡ true
     layout_held m f e n left =
         let all : n ≡ u + r = omega (arith, left_parted m f e, count_rest (inside_list near p) (inside_once near p) c here (mine_at m)) in
-        rw all
+        sums_equal (up_to (inside_cells near p - 1) ∷ map possible_count (frontier near p)) (sym all)
         (sums_more (up_to (inside_cells near p - 1)) (map possible_count (frontier near p)) u r few_rest
         (solutions_sum (frontier near p) (frontier_proper near p) (mine_at m) (λ b k. fits_solves_block near p once few b k m f)))
       where

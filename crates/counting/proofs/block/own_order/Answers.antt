@@ -1,10 +1,7 @@
 -- `counting::block::own_order` meets its contract. The loop's invariant: the array has the groups before g. The measure is what is left.
 -- Rests on BlockRows. Assumes nothing.
-use Prim.Native.Nat.{◌-◌, ◌≤◌}
 use mathlib.Core.Path.{◌≡◌, refl}
 use native.Mathlib.Omega.{arith}
-use borrow.Author.Rules.{rules}
-use Rattle.lists.specs.Lists.{range, pad}
 use Rattle.counting.proofs.BlockRows.{own_order_next}
 use Rattle.counting.proofs.block.own_order.Goals as goal
 

@@ -1,9 +1,6 @@
-use Prim.Native.Nat.{◌-◌, ◌≤◌}
-use mathlib.Core.Path.{◌≡◌, refl}
-use native.Mathlib.Omega.{arith}
-use borrow.Author.Rules.{rules}
+use Prim.Native.Nat.{◌≤◌}
+use mathlib.Core.Path.{◌≡◌}
 use Rattle.lists.specs.Lists.{range, pad}
-use Rattle.counting.proofs.BlockRows.{own_order_next}
 use Rattle.counting.proofs.block.own_order.Given as goal
 
 abbrev pub invariant-loop-g : goal.invariant-loop-g

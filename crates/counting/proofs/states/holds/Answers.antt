@@ -1,5 +1,4 @@
 -- `counting::states::holds` meets its contract. Assumes nothing.
-use borrow.Author.Rules.{rules}
 use borrow.Author.Tests.{ne_eqb, not-true, not-false, eq-eqb}
 use mathlib.Core.Path.{ap}
 use mathlib.Core.Bool.{not}

@@ -1,6 +1,5 @@
 -- `counting::states::keep_state` meets its contract. Assumes nothing.
 use mathlib.Core.Path.{refl}
-use borrow.Author.Rules.{rules}
 use Rattle.counting.proofs.states.keep_state.Goals as goal
 
 pub returns-then-fits : goal.returns-then-fits

@@ -1,13 +1,10 @@
 -- `counting::states::key_of` meets its contract. The loop's invariant: the digits so far, with those of the equations from e on behind them, make the key. The
 -- measure is what is left. Rests on the laws of keys. Assumes nothing.
-use Prim.Native.Nat.{◌-◌, ◌≤◌}
 use mathlib.Core.Path.{refl}
-use mathlib.Core.Logic.{⊎_elim}
 use mathlib.Core.Bool.{false}
 use native.Mathlib.Omega.{arith}
-use borrow.Author.Rules.{rules}
 use Rattle.lists.proofs.Tests.{clash}
-use Rattle.counting.proofs.Keys.{KeyAt, key_start, key_end, key_finished, key_unbegun, key_digit}
+use Rattle.counting.proofs.Keys.{key_start, key_end, key_finished, key_unbegun, key_digit}
 use Rattle.counting.proofs.states.key_of.Goals as goal
 use Rattle.counting.proofs.states.key_of.Goals.{else-rooms-e-gt0, then-rooms-e-gt0+else-rooms-e, then-rooms-e-gt0+then-rooms-e+else-digits-gt1000000000000000000}
 

@@ -1,22 +1,22 @@
 -- `counting::walking::walk` and `walk_values`, which call each other, meet their contracts: a state that the table has is answered from it, and any other goes through every value
 -- of its group and is then kept. The loop's invariant: the values so far are tried. The measure falls with the unset groups. Rests on Tables and TriedValues. Assumes nothing.
-use Prim.Native.Nat.{ℕ, ◌+◌, ◌-◌, ◌*◌, ◌≤◌, ◌<◌}
+use Prim.Native.Nat.{ℕ, ◌+◌, ◌≤◌, ◌<◌}
+use mathlib.Core.Bool.{true}
 use mathlib.Core.Path.{◌≡◌, refl, sym, ◌∙◌}
-use mathlib.Core.Logic.{⊎_elim}
 use native.Mathlib.Omega.{arith}
 use lib.ListN.{get_or}
-use borrow.Author.Rules.{rules}
 use Rattle.search.specs.Searching.{unset}
 use Rattle.search.proofs.OrderedGroups.{Group, group_at, group_place, group_small, column_is, column_on_board}
 use Rattle.search.proofs.TakenValues.{Taken, taken_on_board, taken_once, taken_needs, taken_rooms, taken_state, back_needs, back_rooms, state_same}
 use Rattle.counting.proofs.WalkedRows.{grown_same, grown_marked, walked_known, known_walked}
 use Rattle.counting.proofs.Tables.{right_grown, right_known, right_kept}
-use Rattle.counting.proofs.TriedValues.{room_of, walked_end, Tried, tried_same, tried_none, room_behind, tried_all, tried_impossible, tried_behind, tried_found, tried_unfound}
+use Rattle.counting.proofs.TriedValues.{room_of, walked_end, tried_same, tried_none, room_behind, tried_all, tried_impossible, tried_behind, tried_found, tried_unfound}
 use Rattle.counting.proofs.walking.+walk_walk_values.Goals as goal
 use Rattle.counting.proofs.walking.+walk_walk_values.Goals.{walk-After-place_of-place, walk-Start}
-use Rattle.counting.proofs.walking.+walk_walk_values.Goals.{walk_values-After-wide-g, walk_values-Then-possible}
+use Rattle.counting.proofs.walking.+walk_walk_values.Goals.{walk_values-After-wide-g, walk_values-After-possible, walk_values-Then-possible, walk_values-then-possible+then-below, walk_values-then-possible+else-below, walk_values-else-possible}
 
 -- ---- walk
+
 -- fewer mines are set than a board has cells
 few : (t : ℕ) (s : walk-Start t) → s.args.count ≤ 1024
 few t s = omega (arith, s.requires.at_le_groups.1)
@@ -57,10 +57,10 @@ walk-bounds-results-place t c = c.place_of-place.ensures
 pub walk-returns-then-holds : goal.walk-returns-then-holds
 walk-returns-then-holds t c =
     let (k, u, r) = c.requires.underway in
-    let known = right_known k r (placed_inside c.before.before.before.before.before) (few t (goal.at.walk-returns-then-holds t c).Start) u c.place_of-place.result _ c.key_of-key.result.digits refl c.key_of-key.result.fits c.key_of-key.ensures (sym c.holds.ensures ∙ c.if-holds.true) in record { walked = walked_known known; needs_unchanged = (refl, refl); right = λ k u r. r }
+    let known = right_known k r (placed_inside t (goal.at.walk-returns-then-holds t c).After-place_of-place) (few t (goal.at.walk-returns-then-holds t c).Start) u c.place_of-place.result _ c.key_of-key.result.digits refl c.key_of-key.result.fits c.key_of-key.ensures (rw c.holds.ensures at c.if-holds.true) in record { walked = walked_known known; needs_unchanged = (refl, refl); right = λ k u r. r }
 
 pub walk-walk_values-found-requires : goal.walk-walk_values-found-requires
-walk-walk_values-found-requires t c = (omega (arith, c.requires.MEASURE, placed_inside c.before.before.before.before.before.before.before.before.before.before.before.before), (c.requires.ordered, ((placed_inside c.before.before.before.before.before.before.before.before.before.before.before.before, c.requires.at_le_groups.1, c.requires.at_le_groups.2), (c.requires.reached_len, c.requires.underway))))
+walk-walk_values-found-requires t c = (omega (arith, placed_inside t (goal.at.walk-walk_values-found-requires t c).After-place_of-place), (c.requires.ordered, ((placed_inside t (goal.at.walk-walk_values-found-requires t c).After-place_of-place, c.requires.at_le_groups.1, c.requires.at_le_groups.2), (c.requires.reached_len, c.requires.underway))))
 
 pub walk-keep_state-requires : goal.walk-keep_state-requires
 walk-keep_state-requires t c = let (k, u, r) = c.requires.underway in record { place_bound = c.place_of-place.ensures; tags_len = (c.walk_values-found.ensures.right k u r).whole }
@@ -68,7 +68,7 @@ walk-keep_state-requires t c = let (k, u, r) = c.requires.underway in record { p
 pub walk-returns : goal.walk-returns
 walk-returns t c =
     let e = c.walk_values-found.ensures in
-    let kept = c.keep_state.ensures in record { walked = e.walked; needs_unchanged = e.needs_unchanged; right = λ k u r. rw (kept.tags_after, kept.keys_after, kept.results_after) (right_kept k (e.right k u r) (placed_inside c.before.before.before.before.before.before.before.before.before.before.before.before.before.before.before.before.before) (few t (goal.at.walk-returns t c).Start) u c.place_of-place.result _ c.key_of-key.result.digits refl _ (known_walked e.walked) c.place_of-place.ensures c.requires.ordered.few c.key_of-key.result.fits c.key_of-key.ensures) }
+    let kept = c.keep_state.ensures in record { walked = e.walked; needs_unchanged = e.needs_unchanged; right = λ k u r. rw (kept.tags_after, kept.keys_after, kept.results_after) (right_kept k (e.right k u r) (placed_inside t (goal.at.walk-returns t c).After-place_of-place) (few t (goal.at.walk-returns t c).Start) u c.place_of-place.result _ c.key_of-key.result.digits refl _ (known_walked e.walked) c.place_of-place.ensures c.requires.ordered.few c.key_of-key.result.fits c.key_of-key.ensures) }
 
 -- the group whose values are tried
 here : (t : ℕ) (c : walk_values-After-wide-g t)
@@ -76,17 +76,22 @@ here : (t : ℕ) (c : walk_values-After-wide-g t)
 here t c =
     group_at c.args.at c.wide-g.result c.requires.ordered c.requires.at_lt_groups.0 c.wide-g.ensures
 
-taken : (t : ℕ) (o : walk_values-Then-possible t)
+-- once the value is found possible
+taken_by : (t : ℕ) (o : walk_values-After-possible t) → o.possible.result ≡ true
     → Taken o.args.order.now o.args.groups o.args.equations o.args.sizes.now o.args.columns.now o.args.at o.wide-g.result o.loop-v.needs o.loop-v.rooms o.loop-v.v (get_or o.args.sizes.now o.wide-g.result 0) o.slots_at-list.result
-taken t o =
+taken_by t o can =
     let loop = o.loop-v in
     record {
-      here = here t (goal.at.walk_values-Then-possible t o).After-wide-g;
+      here = here t (goal.at.walk_values-After-possible t o).After-wide-g;
       state = state_same o.requires.underway.1.state loop.invariant.1.same_needs loop.invariant.1.same_rooms;
       within = omega (arith, o.loop-v-test.true);
       column = o.slots_at-list.ensures;
-      can = sym o.possible.ensures ∙ o.if-possible.true;
+      can = sym o.possible.ensures ∙ can;
     }
+
+taken : (t : ℕ) (o : walk_values-Then-possible t)
+    → Taken o.args.order.now o.args.groups o.args.equations o.args.sizes.now o.args.columns.now o.args.at o.wide-g.result o.loop-v.needs o.loop-v.rooms o.loop-v.v (get_or o.args.sizes.now o.wide-g.result 0) o.slots_at-list.result
+taken t o = taken_by t (goal.at.walk_values-Then-possible t o).After-possible o.if-possible.true
 
 pub walk_values-offset_bounds-order-at : goal.walk_values-offset_bounds-order-at
 walk_values-offset_bounds-order-at t c = omega (arith, c.requires.at_lt_groups.0, c.requires.ordered.few)
@@ -132,7 +137,7 @@ walk_values-walk-below-requires t c =
     let (course, u, r) = c.requires.underway in
     let more : c.args.at + 1 ≤ c.args.groups = omega (arith, k.here.inside) in
     let counted : c.args.count + c.wide_byte.result + room_of c.args.sizes.now (unset c.args.order.now c.args.groups (c.args.at + 1)) ≤ 1024 = rw c.wide_byte.ensures.0 (room_behind k.here c.args.count loop.v k.within c.requires.at_lt_groups.1) in (
-      omega (arith, c.requires.MEASURE, k.here.inside),
+      omega (arith, k.here.inside),
       (
         c.requires.ordered,
         (
@@ -171,20 +176,19 @@ walk_values-loop-v-preserved t c =
     let loop = c.loop-v in
     let group = here t (goal.at.walk_values-loop-v-preserved t c).After-wide-g in (
       omega (arith, c.loop-v-test.true),
-      ⊎_elim
-          (λ w.
-          let k = taken (record { before = c.before; if1 = w.0 }) in
-          let e = w.14.ensures in
-          tried_same w.23 w.24 w.25 w.26 w.27 w.28 w.29 w.30 w.31
-          (tried_found group loop.invariant.1 k (omega arith) w.2.ensures w.4.ensures (back_needs k w.2.ensures e.1.0.0 w.16.ensures) (back_rooms k w.4.ensures e.1.0.1 w.18.ensures) (rw w.5.ensures.0 at e.0) e.1.1 w.19.taken w.22.ensures.0 w.22.ensures.1))
-          (⊎_elim
-          (λ w.
-          let k = taken (record { before = c.before; if1 = w.0 }) in
-          let e = w.14.ensures in
-          tried_same w.20 w.21 w.22 w.23 w.24 w.25 w.26 w.27 w.28
-          (tried_unfound group loop.invariant.1 k (omega arith) w.2.ensures w.4.ensures (back_needs k w.2.ensures e.1.0.0 w.16.ensures) (back_rooms k w.4.ensures e.1.0.1 w.18.ensures) (rw w.5.ensures.0 at e.0) e.1.1 w.19.left))
-          (λ w. tried_same w.1 w.2 w.3 w.4 w.5 w.6 w.7 w.8 w.9 (tried_impossible group loop.invariant.1 _ (column_is group _ c.slots_at-list.ensures) (sym c.possible.ensures ∙ w.0.left))))
-          c.if-possible.branch,
+      elim c.if-possible.branch [
+        | walk_values-then-possible+then-below w ↦
+            let k = taken_by t (goal.at.walk_values-loop-v-preserved t c).After-possible w.if-possible.true in
+            let e = w.walk-below.ensures in
+            tried_same w.needs-is w.rooms-is w.reached-is w.mined-is w.unfilled-is w.tags-is w.keys-is w.results-is w.found-is
+            (tried_found group loop.invariant.1 k (omega arith) w.lower.ensures w.lower-then-possible.ensures (back_needs k w.lower.ensures e.needs_unchanged.0 w.raise.ensures) (back_rooms k w.lower-then-possible.ensures e.needs_unchanged.1 w.raise-then-possible.ensures) (rw w.wide_byte.ensures.0 at e.walked) e.right w.if-below.true w.note_value.ensures.marked w.note_value.ensures.marked_2)
+        | walk_values-then-possible+else-below w ↦
+            let k = taken_by t (goal.at.walk_values-loop-v-preserved t c).After-possible w.if-possible.true in
+            let e = w.walk-below.ensures in
+            tried_same w.needs-is w.rooms-is w.reached-is w.mined-is w.unfilled-is w.tags-is w.keys-is w.results-is w.found-is
+            (tried_unfound group loop.invariant.1 k (omega arith) w.lower.ensures w.lower-then-possible.ensures (back_needs k w.lower.ensures e.needs_unchanged.0 w.raise.ensures) (back_rooms k w.lower-then-possible.ensures e.needs_unchanged.1 w.raise-then-possible.ensures) (rw w.wide_byte.ensures.0 at e.walked) e.right w.if-below.false)
+        | walk_values-else-possible w ↦ tried_same w.needs-is w.rooms-is w.reached-is w.mined-is w.unfilled-is w.tags-is w.keys-is w.results-is w.found-is (tried_impossible group loop.invariant.1 _ (column_is group _ c.slots_at-list.ensures) (sym c.possible.ensures ∙ w.if-possible.false))
+      ],
     )
 
 pub walk_values-returns : goal.walk_values-returns

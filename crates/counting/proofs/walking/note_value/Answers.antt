@@ -1,7 +1,5 @@
 -- `counting::walking::note_value` meets its contract. Rests on the laws of marks. Assumes nothing.
-use mathlib.Core.Logic.{⊎_elim}
 use native.Mathlib.Omega.{arith}
-use borrow.Author.Rules.{rules}
 use borrow.Author.Tests.{lt-ltb, le-ltb}
 use Rattle.counting.proofs.Marks.{marked_place, marked_no_place}
 use Rattle.counting.proofs.walking.note_value.Goals as goal

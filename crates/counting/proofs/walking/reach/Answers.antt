@@ -1,7 +1,6 @@
 -- `counting::walking::reach` meets its contract. Rests on the laws of marks. Assumes nothing.
 use mathlib.Core.Path.{refl, sym, ◌∙◌}
 use native.Mathlib.Omega.{arith}
-use borrow.Author.Rules.{rules}
 use borrow.Author.Tests.{eq-eqb, ne_eqb, not-true, not-false}
 use Rattle.counting.proofs.Marks.{marked_place, marked_no_place}
 use mathlib.Core.Path.{ap}

@@ -1,0 +1,37 @@
+-- `subtraction::subtract` meets its contract: the marks of all pairs are listed, and the cells that either marks are known. Rests on the laws of the rule's own
+-- lists on a set. Assumes nothing.
+use mathlib.Core.Path.{refl}
+use native.Mathlib.Omega.{arith}
+use borrow.Author.Rules.{rules}
+use Rattle.blocks.specs.BlockSets.{blocks_of}
+use Rattle.blocks.proofs.Behind.{blocks_held, blocks_few}
+use Rattle.blocks.proofs.Standing.{arrays_in}
+use Rattle.subtraction.proofs.ReadyBlocks.{all_equations_once}
+use Rattle.subtraction.proofs.SetPlaces.{parts, slots_once}
+use Rattle.subtraction.proofs.MarkedLists.{mines_fit, safe_fit, subtracted}
+use Rattle.subtraction.proofs.subtract.Goals as goal
+
+-- ---- the needs
+pub subtract_blocks-requires : goal.subtract_blocks-requires
+subtract_blocks-requires c =
+    let set = c.args.set in
+    let whole = c.requires.whole in record {
+      blocks_bound = blocks_few set whole;
+      by_index = λ b h. (
+        (arrays_in set whole b (omega (arith, blocks_held set whole))).in_slots,
+        slots_once set whole (all_equations_once (blocks_of set) c.requires.ready) b h,
+      );
+      mines_len = (refl, refl);
+    }
+
+pub list_blocks-mines-requires : goal.list_blocks-mines-requires
+list_blocks-mines-requires c = record { parts = parts c.args.set c.requires.whole; blocks_len_bound = mines_fit c.args.set c.requires.whole c.requires.ready _ c.subtract_blocks.new.safe c.subtract_blocks.ensures.by_index_2 c.subtract_blocks.ensures.by_index_3 }
+
+pub list_blocks-safe-requires : goal.list_blocks-safe-requires
+list_blocks-safe-requires c = record { parts = parts c.args.set c.requires.whole; blocks_len_bound = safe_fit c.args.set c.requires.whole c.requires.ready c.subtract_blocks.new.mines _ c.subtract_blocks.ensures.by_index_2 c.subtract_blocks.ensures.by_index_3 }
+
+pub returns : goal.returns
+returns c =
+    let k = c.marked_in_one-known in
+    subtracted c.args.set c.requires.whole c.requires.ready c.subtract_blocks.new.mines c.subtract_blocks.new.safe c.subtract_blocks.ensures.by_index_2 c.subtract_blocks.ensures.by_index_3
+    _ k.ensures _ c.list_blocks-mines.ensures _ c.list_blocks-safe.ensures

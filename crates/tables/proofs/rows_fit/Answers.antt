@@ -1,0 +1,19 @@
+-- `rows_fit` meets its contract: of an allowance of one row more than there is room for something is left exactly where the rows have room. Rests on TableRoom
+-- and on what `spend` ensures. Assumes nothing.
+use Prim.Native.Nat.{ℕ}
+use mathlib.Core.Path.{ap, ◌∙◌}
+use native.Mathlib.Omega.{arith}
+use lib.Dec.{ltb}
+use lib.ListN.{length-replicate}
+use borrow.Author.Rules.{rules}
+use Rattle.tables.proofs.TableRoom.{most_small, left_where_room}
+use Rattle.tables.proofs.rows_fit.Goals as goal
+
+pub overflow_add-most : goal.overflow_add-most
+overflow_add-most c = omega (arith, most_small c.args.room c.args.grouped.groups c.requires.groups_nonzero.1)
+
+pub spend-left-requires : goal.spend-left-requires
+spend-left-requires c = record { ordered = c.requires.ordered; state = c.requires.state; at_le_groups = (omega arith, length-replicate {A = ℕ} 1024 0, omega arith) }
+
+pub returns : goal.returns
+returns c = ap (ltb 0) c.spend-left.ensures.value ∙ left_where_room c.args.room c.args.grouped.groups _ c.requires.groups_nonzero.0
