@@ -26,9 +26,9 @@ use Rattle.fitting.specs.Passes.{all_open}
 -- a line of the table
 pub data Case : Type 0 where
   -- a board of that size and start, lent a picture and rounds of its size: the number of the refusal, or 0
-  board_tested_lem : (rows columns row column : ℕ) → List ℕ → ℕ → Case
+  tests_board : (rows columns row column : ℕ) → List ℕ → ℕ → Case
   -- a position of that size: the number of the refusal, or 0
-  position_tested_lem : (rows columns : ℕ) → List ℕ → ℕ → Case
+  tests_position : (rows columns : ℕ) → List ℕ → ℕ → Case
   -- the frontier of a position: its blocks, its inside cells and its known mines
   frontier_read : (rows columns : ℕ) → List ℕ → List Block → (inside known : ℕ) → Case
   -- a rule called on a position: its safe cells and mines, the position after, and the blocks left
@@ -107,8 +107,8 @@ none = 65535
 
 -- the line holds
 unfoldable pub holds : Case → Bool
-holds (board_tested_lem rows columns row column b n) = eqb (tested_number (board_tested flat rows columns row column b (rows * columns ∷ rows * columns ∷ []))) n
-holds (position_tested_lem rows columns p n) = eqb (tested_number (position_tested rows columns p)) n
+holds (tests_board rows columns row column b n) = eqb (tested_number (board_tested flat rows columns row column b (rows * columns ∷ rows * columns ∷ []))) n
+holds (tests_position rows columns p n) = eqb (tested_number (position_tested rows columns p)) n
 holds (frontier_read rows columns p bs inside known) =
     same_by same_block (frontier (neighbours flat rows columns) p) bs
     && (eqb (inside_cells (neighbours flat rows columns) p) inside && eqb (known_mines p) known)
@@ -269,9 +269,9 @@ table =
     ∷ bbbv 1 2 (9 ∷ 255 ∷ []) 3 []
     ∷ bbbv 1 2 (0 ∷ 255 ∷ []) 5 []
     -- 11. 32 rows accepted, 33 refusal 1
-    ∷ board_tested_lem 32 1 0 0 (replicate 32 0) 0
-    ∷ board_tested_lem 33 1 0 0 (replicate 33 0) 1
+    ∷ tests_board 32 1 0 0 (replicate 32 0) 0
+    ∷ tests_board 33 1 0 0 (replicate 33 0) 1
     ∷ unjudged 33 1 0 0 (replicate 33 0) 1
-    ∷ position_tested_lem 32 1 (replicate 32 10) 0
-    ∷ position_tested_lem 33 1 (replicate 33 10) 1
+    ∷ tests_position 32 1 (replicate 32 10) 0
+    ∷ tests_position 33 1 (replicate 33 10) 1
     ∷ []

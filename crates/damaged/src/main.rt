@@ -3,41 +3,45 @@
 #![tactic(auto)]
 
 use reading::judge_records;
+use std::fs::File;
+use telling::tell_failure;
 
 // Prints the file's name and the answers to its records.
-fn judge_file(name: &[u8]) {
-    let mut input = io::large_buffer();
-    let mut out = io::large_buffer();
-    io::write_all(1, name);
-    io::write_all(1, b":\n");
-    let fd = os::open_read(name);
-    if fd < 0 {
-        os::fail(name);
-        return;
+fn judge_file(rt: &HostRuntime, name: &str) {
+    let mut input = [0u8; 65536];
+    let mut out = [0u8; 65536];
+    let _ = println!(rt; "{name}:");
+    match File::open(rt, name) {
+        Ok(mut file) => judge_records(
+            &mut file,
+            &mut rt.stdout(),
+            &mut rt.stderr(),
+            &mut input,
+            &mut out,
+        ),
+        Err(error) => tell_failure(&mut rt.stderr(), name.as_bytes(), error),
     }
-    judge_records(fd, &mut input, &mut out);
-    libc::close(fd);
 }
 
-fn main() {
-    judge_file(b"empty");
-    judge_file(b"one_byte");
-    judge_file(b"unknown_mark");
-    judge_file(b"unknown_mark_alone");
-    judge_file(b"unknown_mark_between");
-    judge_file(b"cut_after_2");
-    judge_file(b"cut_after_3");
-    judge_file(b"cut_after_4");
-    judge_file(b"cut_after_5");
-    judge_file(b"cut_after_6");
-    judge_file(b"cut_in_cells");
-    judge_file(b"refused_size");
-    judge_file(b"refused_largest");
-    judge_file(b"refused_cell");
-    judge_file(b"refused_start");
-    judge_file(b"refused_number");
-    judge_file(b"refused_mine");
-    judge_file(b"refused_open_start");
-    judge_file(b"total_mark");
-    judge_file(b"total_mark_refused");
+fn main(rt: HostRuntime) {
+    judge_file(&rt, "empty");
+    judge_file(&rt, "one_byte");
+    judge_file(&rt, "unknown_mark");
+    judge_file(&rt, "unknown_mark_alone");
+    judge_file(&rt, "unknown_mark_between");
+    judge_file(&rt, "cut_after_2");
+    judge_file(&rt, "cut_after_3");
+    judge_file(&rt, "cut_after_4");
+    judge_file(&rt, "cut_after_5");
+    judge_file(&rt, "cut_after_6");
+    judge_file(&rt, "cut_in_cells");
+    judge_file(&rt, "refused_size");
+    judge_file(&rt, "refused_largest");
+    judge_file(&rt, "refused_cell");
+    judge_file(&rt, "refused_start");
+    judge_file(&rt, "refused_number");
+    judge_file(&rt, "refused_mine");
+    judge_file(&rt, "refused_open_start");
+    judge_file(&rt, "total_mark");
+    judge_file(&rt, "total_mark_refused");
 }

@@ -1,12 +1,14 @@
-// The run over an open file: read, answer, write, keep what was not read. What the bytes come to is decided by `answer_part`, whose contract holds wherever the
-// input is cut; here they are only moved. How the run ended is told on standard error: a read or a write that failed with its cause, a damaged record with its
-// place, and a summary where all that could be judged was judged and written.
+// The run over a reader and a writer: read, answer, write, keep what was not read. What the bytes come to is decided by `answer_part`, whose contract holds wherever the
+// input is cut; here they are only moved. How the run ended is told to a second writer, which is standard error: a read or a write that failed with its cause, a damaged
+// record with its place, and a summary where all that could be judged was judged and written.
 #![tactic(auto)]
 
-ghost use Rattle.std.specs.Prelude.{◌≡◌, ◌≤◌, length};
+ghost use Rattle.std.specs.Prelude.{◌≡◌, ◌+◌, ◌≤◌, IfSome, length};
 
 use refusals::{Refusal, refusal_number};
 use run::{Run, RunState, Tally, answer_part, goes_on, keep_rest, new_run, run_after};
+use std::io::{Read, Write};
+use telling::{tell, tell_failure, tell_number};
 
 // A run between two reads: how many bytes are held at the front of the input, how far the run has come, and whether a read or a write has failed.
 #[derive(Clone, Copy)]
@@ -16,81 +18,95 @@ struct Turn {
     failed: bool,
 }
 
-// Reads more of the input behind the bytes held: how many bytes came, 0 at the input's end, -1 where the read failed.
-fn read_more(fd: i32, input: &mut [u8], held: usize) -> isize
+// Reads more of the input behind the bytes held: how many bytes came, 0 at the input's end, or nothing where the read failed.
+fn read_more<R: Read, E: Write>(
+    reader: &mut R,
+    messages: &mut E,
+    input: &mut [u8],
+    held: usize,
+) -> Option<usize>
     requires { held ≤ length input.old }
+    ensures { IfSome result (λ came. held + came ≤ length input.new) }
 {
-    let got = libc::read(fd, &mut input[held..]);
-    if got < 0 {
-        os::fail(b"judge: reading the input");
+    match reader.read(&mut input[held..]) {
+        Ok(came) => Some(came),
+        Err(error) => {
+            tell_failure(messages, b"judge: reading the input", error);
+            None
+        }
     }
-    got
 }
 
-// Writes the first bytes of a buffer to standard output. Did all of them go out?
-fn write_out(out: &[u8], len: usize) -> bool
+// Writes the first bytes of a buffer. Did all of them go out?
+fn write_out<W: Write, E: Write>(writer: &mut W, messages: &mut E, out: &[u8], len: usize) -> bool
     requires { len ≤ length out.now }
 {
-    let written = io::write_all(1, &out[..len]);
-    if !written {
-        os::fail(b"judge: writing standard output");
+    match writer.write_all(&out[..len]) {
+        Ok(()) => true,
+        Err(error) => {
+            tell_failure(messages, b"judge: writing standard output", error);
+            false
+        }
     }
-    written
 }
 
 // Reads, answers and writes once. What was read before a read that failed is answered all the same.
-fn take_turn(fd: i32, input: &mut [u8], out: &mut [u8], turn: Turn) -> Turn
+fn take_turn<R: Read, W: Write, E: Write>(
+    reader: &mut R,
+    writer: &mut W,
+    messages: &mut E,
+    input: &mut [u8],
+    out: &mut [u8],
+    turn: Turn,
+) -> Turn
     requires { turn.held ≤ length input.old }
     ensures { result.held ≤ length input.new }
 {
     let held = turn.held;
     let run = turn.run;
-    let got = read_more(fd, input, held);
-    let end = held + io::count(got, &input[held..]);
-    let part = answer_part(&input[..end], got == 0, run.next, out);
-    let written = write_out(out, part.len);
+    let got = read_more(reader, messages, input, held);
+    let end = held + got.unwrap_or(0);
+    let part = answer_part(&input[..end], got == Some(0), run.next, out);
+    let written = write_out(writer, messages, out, part.len);
     Turn {
         held: keep_rest(input, part.read, end),
         run: run_after(run, part),
-        failed: if written { got < 0 } else { true },
+        failed: if written { got.is_none() } else { true },
     }
 }
 
-// Writes to standard error. Where that fails there is nobody left to tell.
-fn tell(text: &[u8]) {
-    io::write_all(2, text);
-}
-
-fn tell_number(number: usize) {
-    io::print_decimal(2, number as u64);
-}
-
 // At which byte a damaged record begins, and that the rest was not judged.
-fn tell_damage(refusal: Refusal, at: usize) {
-    tell(b"judge: stopped at byte ");
-    tell_number(at);
+fn tell_damage<E: Write>(messages: &mut E, refusal: Refusal, at: usize) {
+    tell(messages, b"judge: stopped at byte ");
+    tell_number(messages, at);
     if refusal_number(refusal) == 11 {
-        tell(b" of the input: it ends inside the record that begins there, which was not judged\n");
+        tell(
+            messages,
+            b" of the input: it ends inside the record that begins there, which was not judged\n",
+        );
     } else {
-        tell(b" of the input: no record begins there; what follows was not judged\n");
+        tell(
+            messages,
+            b" of the input: no record begins there; what follows was not judged\n",
+        );
     }
 }
 
 // `judge: 1500 boards: 980 yes, 500 no, 20 refused`.
-fn tell_summary(tally: Tally, boards: usize) {
-    tell(b"judge: ");
-    tell_number(boards);
+fn tell_summary<E: Write>(messages: &mut E, tally: Tally, boards: usize) {
+    tell(messages, b"judge: ");
+    tell_number(messages, boards);
     if boards == 1 {
-        tell(b" board: ");
+        tell(messages, b" board: ");
     } else {
-        tell(b" boards: ");
+        tell(messages, b" boards: ");
     }
-    tell_number(tally.yes);
-    tell(b" yes, ");
-    tell_number(tally.no);
-    tell(b" no, ");
-    tell_number(tally.refused);
-    tell(b" refused\n");
+    tell_number(messages, tally.yes);
+    tell(messages, b" yes, ");
+    tell_number(messages, tally.no);
+    tell(messages, b" no, ");
+    tell_number(messages, tally.refused);
+    tell(messages, b" refused\n");
 }
 
 // The number of the line that would be next tells how many boards there were: line 0 is the header.
@@ -99,19 +115,26 @@ fn boards_of(next: usize) -> usize {
 }
 
 // How a run ended that has come to its end.
-fn tell_end(run: Run) {
+fn tell_end<E: Write>(messages: &mut E, run: Run) {
     let state = run.state;
     let tally = run.tally;
     match state {
-        RunState::Stopped(refusal) => tell_damage(refusal, run.read),
+        RunState::Stopped(refusal) => tell_damage(messages, refusal, run.read),
         _ => {}
     }
-    tell_summary(tally, boards_of(run.next));
+    tell_summary(messages, tally, boards_of(run.next));
 }
 
-// Judges the records of an open file. It answers nothing, and no contract can say what is read and written. The input has room for the longest record and a byte more, so
-// that a read that brings nothing is the input's end; the loop ends, as every function does, after more reads than any input has bytes.
-pub fn judge_records(fd: i32, input: &mut [u8], out: &mut [u8])
+// Judges the records that a reader gives, and writes the lines to a writer. It answers nothing, and no contract can say what is read and written. The input has room for
+// the longest record and a byte more, so that a read that brings nothing is the input's end; the loop ends, as every function does, after more reads than any input has
+// bytes.
+pub fn judge_records<R: Read, W: Write, E: Write>(
+    reader: &mut R,
+    writer: &mut W,
+    messages: &mut E,
+    input: &mut [u8],
+    out: &mut [u8],
+)
     requires { (65032 ≤ length input.old) × (128 ≤ length out.old) }
     ensures { (length input.new ≡ length input.old) × (length out.new ≡ length out.old) }
 {
@@ -122,13 +145,13 @@ pub fn judge_records(fd: i32, input: &mut [u8], out: &mut [u8])
     };
     let mut reads: u64 = 0;
     while reads < 0xffff_ffff_ffff_ffff {
-        turn = take_turn(fd, input, out, turn);
+        turn = take_turn(reader, writer, messages, input, out, turn);
         if turn.failed {
             return;
         }
         let run = turn.run;
         if !goes_on(run) {
-            tell_end(run);
+            tell_end(messages, run);
             return;
         }
         reads += 1;

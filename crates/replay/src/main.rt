@@ -1,13 +1,15 @@
 // replay: runs the stored answers in data/, one file for each call, in which a line that is asked and the line that was answered follow each other. They are the
 // Rust's; those of total, a call that the Rust has not, are of another judge, written from the definition alone. It names each case whose answer differs, and says how
-// many agree. Last it runs eighteen answers that are wrong on purpose, and says how many of them it took for right.
+// many agree. Last it runs fifteen answers that are wrong on purpose, and says how many of them it took for right.
 #![tactic(auto)]
 
-ghost use Rattle.std.specs.Prelude.{◌≡◌, ◌<◌, length};
+ghost use Rattle.std.specs.Prelude.{◌≡◌, ◌+◌, ◌≤◌, ◌<◌, length};
 ghost use Rattle.replay.specs.Stored.{agreeing, judged, one_more};
 
 use answers::{Call, call_line};
-use check::same;
+use std::fs::File;
+use std::io::Read;
+use telling::tell_failure;
 
 // Where a file stands: whether a case that differs is named, whether the line that comes is an answer, how long the line asked and the line that comes are so
 // far, and the cases so far.
@@ -46,18 +48,23 @@ fn agrees(
         return false;
     }
     let n = call_line(call, &asked[..asked_len], out);
-    same(&out[..n], &answer[..len])
+    out[..n] == answer[..len]
+}
+
+// Prints bytes. Where that fails there is nobody left to tell.
+fn print_bytes<P: Print>(rt: &P, bytes: &[u8]) {
+    let _ = rt.write_all(bytes);
 }
 
 // Names a case that differs by its line, as far as that fits its buffer.
-fn name_case(asked: &[u8], asked_len: usize) {
-    io::write_all(1, b"differs: ");
+fn name_case<P: Print>(rt: &P, asked: &[u8], asked_len: usize) {
+    print_bytes(rt, b"differs: ");
     if asked_len < asked.len() {
-        io::write_all(1, &asked[..asked_len]);
+        print_bytes(rt, &asked[..asked_len]);
     } else {
-        io::write_all(1, asked);
+        print_bytes(rt, asked);
     }
-    io::write_all(1, b"\n");
+    print_bytes(rt, b"\n");
 }
 
 // A count of cases and one more, up to a count that no file has.
@@ -71,7 +78,14 @@ fn one_more(cases: usize) -> usize
 }
 
 // The case is judged; one that differs is named.
-fn judge(call: Call, s: State, asked: &[u8], answer: &[u8], out: &mut [u8]) -> State
+fn judge<P: Print>(
+    rt: &P,
+    call: Call,
+    s: State,
+    asked: &[u8],
+    answer: &[u8],
+    out: &mut [u8],
+) -> State
     ensures { result ≡ judged (agreeing call asked.now s.asked answer.now s.len (length out.old)) s }
 {
     let asked_len = s.asked;
@@ -86,7 +100,7 @@ fn judge(call: Call, s: State, asked: &[u8], answer: &[u8], out: &mut [u8]) -> S
         };
     }
     if s.named {
-        name_case(asked, asked_len);
+        name_case(rt, asked, asked_len);
     }
     State {
         named: s.named,
@@ -108,7 +122,8 @@ fn put(line: &mut [u8], len: usize, byte: u8) -> usize {
 }
 
 // Takes in one byte.
-fn take(
+fn take<P: Print>(
+    rt: &P,
     call: Call,
     s: State,
     byte: u8,
@@ -118,7 +133,7 @@ fn take(
 ) -> State {
     if byte == b'\n' {
         if s.answering {
-            return judge(call, s, asked, answer, out);
+            return judge(rt, call, s, asked, answer, out);
         }
         return State {
             named: s.named,
@@ -140,7 +155,8 @@ fn take(
 }
 
 // Takes in the bytes of a chunk.
-fn take_all(
+fn take_all<P: Print>(
+    rt: &P,
     call: Call,
     before: State,
     chunk: &[u8],
@@ -150,7 +166,7 @@ fn take_all(
 ) -> State {
     let mut s = before;
     for i in 0..chunk.len() {
-        s = take(call, s, chunk[i], asked, answer, out);
+        s = take(rt, call, s, chunk[i], asked, answer, out);
     }
     s
 }
@@ -166,12 +182,35 @@ fn chunks_left(left: usize, len: usize, full: usize) -> usize
     left - 1
 }
 
+// Reads once behind the bytes that are in: how many came, 0 at the input's end and where the read failed.
+fn read_more<R: Read>(reader: &mut R, chunk: &mut [u8], done: usize) -> usize
+    requires { done ≤ length chunk.old }
+    ensures { done + result ≤ length chunk.new }
+{
+    match reader.read(&mut chunk[done..]) {
+        Ok(came) => came,
+        Err(_) => 0,
+    }
+}
+
+// Reads until the chunk is full, the input ends or a read fails: how many bytes are in.
+fn read_full<R: Read>(reader: &mut R, chunk: &mut [u8]) -> usize
+    ensures { result ≤ length chunk.new }
+{
+    let mut done = 0;
+    while done < chunk.len() {
+        let came = read_more(reader, chunk, done);
+        if came == 0 {
+            return done;
+        }
+        done += came;
+    }
+    done
+}
+
 // Prints how many cases agree and differ.
-fn print_counts(agree: usize, differ: usize) {
-    io::print_decimal(1, agree as u64);
-    io::write_all(1, b" agree, ");
-    io::print_decimal(1, differ as u64);
-    io::write_all(1, b" differ\n");
+fn print_counts<P: Print>(rt: &P, agree: usize, differ: usize) {
+    let _ = println!(rt; "{agree} agree, {differ} differ");
 }
 
 // Before the first case.
@@ -186,10 +225,11 @@ fn no_cases(named: bool) -> State {
     }
 }
 
-// Runs the cases of an open file.
-fn run(
+// Runs the cases that a reader gives.
+fn run<P: Print, R: Read>(
+    rt: &P,
+    reader: &mut R,
     call: Call,
-    fd: i32,
     before: State,
     chunk: &mut [u8],
     asked: &mut [u8],
@@ -199,69 +239,66 @@ fn run(
     let mut s = before;
     let mut left: usize = 65536;
     while 0 < left {
-        let n = io::read_full(fd, chunk);
-        s = take_all(call, s, &chunk[..n], asked, answer, out);
+        let n = read_full(reader, chunk);
+        s = take_all(rt, call, s, &chunk[..n], asked, answer, out);
         left = chunks_left(left, n, chunk.len());
     }
     s
 }
 
 // Runs a file of a call's answers.
-fn run_file(call: Call, name: &[u8], before: State) -> State {
-    let fd = os::open_read(name);
-    if fd < 0 {
-        os::fail(name);
-        return before;
-    }
-    let mut chunk = io::large_buffer();
+fn run_file(rt: &HostRuntime, call: Call, name: &str, before: State) -> State {
+    let mut chunk = [0u8; 65536];
     let mut asked = line_buffer();
-    let mut answer = io::large_buffer();
-    let mut out = io::large_buffer();
-    let after = run(
-        call,
-        fd,
-        before,
-        &mut chunk,
-        &mut asked,
-        &mut answer,
-        &mut out,
-    );
-    libc::close(fd);
-    after
+    let mut answer = [0u8; 65536];
+    let mut out = [0u8; 65536];
+    match File::open(rt, name) {
+        Ok(mut file) => run(
+            rt,
+            &mut file,
+            call,
+            before,
+            &mut chunk,
+            &mut asked,
+            &mut answer,
+            &mut out,
+        ),
+        Err(error) => {
+            tell_failure(&mut rt.stderr(), name.as_bytes(), error);
+            before
+        }
+    }
 }
 
 // Runs the stored answers of a call and says how many agree.
-fn run_call(call: Call, name: &[u8]) {
-    io::write_all(1, name);
-    io::write_all(1, b": ");
-    let s = run_file(call, name, no_cases(true));
-    print_counts(s.agree, s.differ);
+fn run_call(rt: &HostRuntime, call: Call, name: &str) {
+    let _ = print!(rt; "{name}: ");
+    let s = run_file(rt, call, name, no_cases(true));
+    print_counts(rt, s.agree, s.differ);
 }
 
 // The control: runs the answers that are wrong, without naming them, and says how many agree.
-fn run_wrong() {
-    let mut s = run_file(Call::Frontier, b"wrong_frontier", no_cases(false));
-    s = run_file(Call::Direct, b"wrong_direct", s);
-    s = run_file(Call::Minus, b"wrong_minus", s);
-    s = run_file(Call::Enumerate, b"wrong_enumerate", s);
-    s = run_file(Call::Table, b"wrong_table", s);
-    s = run_file(Call::Pattern, b"wrong_pattern", s);
-    s = run_file(Call::Bbbv, b"wrong_bbbv", s);
-    s = run_file(Call::Verdict, b"wrong_verdict", s);
-    s = run_file(Call::Total, b"wrong_total", s);
-    io::write_all(1, b"control: ");
-    print_counts(s.agree, s.differ);
+fn run_wrong(rt: &HostRuntime) {
+    let mut s = run_file(rt, Call::Frontier, "wrong_frontier", no_cases(false));
+    s = run_file(rt, Call::Direct, "wrong_direct", s);
+    s = run_file(rt, Call::Minus, "wrong_minus", s);
+    s = run_file(rt, Call::Enumerate, "wrong_enumerate", s);
+    s = run_file(rt, Call::Table, "wrong_table", s);
+    s = run_file(rt, Call::Pattern, "wrong_pattern", s);
+    s = run_file(rt, Call::Verdict, "wrong_verdict", s);
+    s = run_file(rt, Call::Total, "wrong_total", s);
+    let _ = print!(rt; "control: ");
+    print_counts(rt, s.agree, s.differ);
 }
 
-fn main() {
-    run_call(Call::Frontier, b"frontier");
-    run_call(Call::Direct, b"direct");
-    run_call(Call::Minus, b"minus");
-    run_call(Call::Enumerate, b"enumerate");
-    run_call(Call::Table, b"table");
-    run_call(Call::Pattern, b"pattern");
-    run_call(Call::Bbbv, b"bbbv");
-    run_call(Call::Verdict, b"verdict");
-    run_call(Call::Total, b"total");
-    run_wrong();
+fn main(rt: HostRuntime) {
+    run_call(&rt, Call::Frontier, "frontier");
+    run_call(&rt, Call::Direct, "direct");
+    run_call(&rt, Call::Minus, "minus");
+    run_call(&rt, Call::Enumerate, "enumerate");
+    run_call(&rt, Call::Table, "table");
+    run_call(&rt, Call::Pattern, "pattern");
+    run_call(&rt, Call::Verdict, "verdict");
+    run_call(&rt, Call::Total, "total");
+    run_wrong(&rt);
 }

@@ -5,27 +5,30 @@
 ghost use Rattle.std.specs.Prelude.{◌≤◌};
 
 use reading::judge_records;
+use std::fs::File;
+use telling::tell_failure;
 
 // Judges the file with a buffer that holds so many bytes of the input.
-fn judge_by(size: usize)
+fn judge_by(rt: &HostRuntime, size: usize)
     requires { (65032 ≤ size) × (size ≤ 65536) }
 {
-    let mut input = io::large_buffer();
+    let mut input = [0u8; 65536];
     let mut out = [0u8; 128];
-    io::write_all(1, b"input of ");
-    io::print_decimal(1, size as u64);
-    io::write_all(1, b" bytes at a time:\n");
-    let fd = os::open_read(b"seventy_thousand");
-    if fd < 0 {
-        os::fail(b"seventy_thousand");
-        return;
+    let _ = println!(rt; "input of {size} bytes at a time:");
+    match File::open(rt, "seventy_thousand") {
+        Ok(mut file) => judge_records(
+            &mut file,
+            &mut rt.stdout(),
+            &mut rt.stderr(),
+            &mut input[..size],
+            &mut out,
+        ),
+        Err(error) => tell_failure(&mut rt.stderr(), b"seventy_thousand", error),
     }
-    judge_records(fd, &mut input[..size], &mut out);
-    libc::close(fd);
 }
 
-fn main() {
+fn main(rt: HostRuntime) {
     for size in 65032..65133 {
-        judge_by(size);
+        judge_by(&rt, size);
     }
 }

@@ -1,7 +1,6 @@
 -- `blocks::begin_at` meets its contract. Assumes nothing.
 use mathlib.Core.Path.{◌∙◌}
 use Rattle.blocks.proofs.Between.{begin_first, begin_later}
-use borrow.Author.Rules.{rules}
 use Rattle.blocks.proofs.begin_at.Goals as goal
 
 pub returns-then-k-eq0 : goal.returns-then-k-eq0

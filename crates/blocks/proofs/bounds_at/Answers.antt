@@ -1,6 +1,5 @@
 -- `blocks::bounds_at` meets its contract: each number is what the function that it calls tells. Assumes nothing.
 use mathlib.Core.Path.{refl}
-use borrow.Author.Rules.{rules}
 use Rattle.blocks.proofs.bounds_at.Goals as goal
 
 pub returns : goal.returns

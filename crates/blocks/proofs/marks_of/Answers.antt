@@ -1,13 +1,12 @@
 -- `blocks::marks_of` meets its contract. The loop's invariant: the marks are those of the first k cells of the list. The measure is what is left of
 -- the list. Rests on `marks_push`. Assumes nothing.
-use Prim.Native.Nat.{ℕ, ◌+◌, ◌-◌, ◌≤◌}
+use Prim.Native.Nat.{ℕ, ◌+◌}
 use mathlib.Core.Path.{◌≡◌, sym, ap, ◌∙◌}
 use mathlib.Core.List.{[], ◌∷◌, ◌++◌}
 use native.Mathlib.Numerals.{add-one}
 use native.Mathlib.Omega.{arith}
 use lib.ListN.{length, take, length-set}
 use lib.Seq.{take-suc}
-use Rattle.blocks.specs.Places.{Marks}
 use Rattle.blocks.proofs.MarkLaws.{marks_push, list_below, marks_none}
 use borrow.Author.Rules.{rules}
 use Rattle.blocks.proofs.marks_of.Goals as goal

@@ -1,8 +1,7 @@
 -- `blocks::meets_marks` meets its contract. The loop's invariant: a cell from place k on is marked exactly if some cell of the list is. The measure is
 -- what is left of the list. Rests on the laws of counted elements. Assumes nothing.
-use Prim.Native.Nat.{◌-◌, ◌≤◌}
 use mathlib.Core.Path.{◌≡◌, refl, sym, ap, ◌∙◌}
-use lib.ListN.{length, take, drop}
+use lib.ListN.{length}
 use borrow.Author.Tests.{eq-eqb, ne_eqb}
 use Rattle.lists.specs.Lists.{any}
 use Rattle.lists.proofs.Counted.{counted_none}

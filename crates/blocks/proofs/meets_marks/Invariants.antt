@@ -1,12 +1,8 @@
-use Prim.Native.Nat.{◌-◌, ◌≤◌}
-use mathlib.Core.Path.{◌≡◌, refl, sym, ap, ◌∙◌}
-use lib.ListN.{length, take, drop}
-use borrow.Author.Tests.{eq-eqb, ne_eqb}
+use Prim.Native.Nat.{◌≤◌}
+use mathlib.Core.Path.{◌≡◌}
+use lib.ListN.{take, drop}
 use Rattle.lists.specs.Lists.{any}
-use Rattle.lists.proofs.Counted.{counted_none}
 use Rattle.blocks.specs.Places.{marked}
-use Rattle.blocks.proofs.MarkLaws.{list_next, list_below, search_here, search_next}
-use borrow.Author.Rules.{rules}
 use Rattle.blocks.proofs.meets_marks.Given as goal
 
 abbrev pub invariant-loop-k : goal.invariant-loop-k

@@ -1,14 +1,10 @@
 -- `blocks::put_slots` meets its contract. The loop's invariant: the slots with what is left of the list stored from slot k on are the slots at entry with all of
 -- it stored. The measure is what is left of eight. It rests on the laws of one turn in `Turns`. Assumes nothing.
-use Prim.Native.Nat.{◌-◌, ◌≤◌}
 use mathlib.Core.Path.{◌≡◌, sym, ◌∙◌}
-use mathlib.Core.Logic.{⊎_elim}
 use native.Mathlib.Omega.{arith}
 use borrow.Author.Rules.{rules}
-use lib.ListN.{length, take}
-use lib.Seq.{sets}
-use Rattle.lists.specs.Lists.{pad}
-use Rattle.blocks.proofs.Turns.{stored, put_none, put_cell, put_filler, put_last}
+use lib.ListN.{length}
+use Rattle.blocks.proofs.Turns.{put_none, put_cell, put_filler, put_last}
 use Rattle.blocks.proofs.put_slots.Goals as goal
 use Rattle.blocks.proofs.put_slots.Goals.{else-k-len, then-k-len}
 
@@ -20,7 +16,7 @@ loop-k-preserved c =
     let l = c.loop-k in
     let whole : length c.args.list.cells ≡ 8 = search rules in
     elim c.if-k-len.branch [
-      then-k-len w ↦ (search rules, rw w.slots-is (sym (put_cell _ _ whole (omega arith) l.slots _ l.k w.if-k-len.true) ∙ l.invariant.1))
+      | then-k-len w ↦ (search rules, rw w.slots-is (sym (put_cell _ _ whole (omega arith) l.slots _ l.k w.if-k-len.true) ∙ l.invariant.1))
       | else-k-len w ↦ (search rules, rw w.slots-is (sym (put_filler _ _ whole (omega arith) l.slots _ l.k w.if-k-len.false (omega arith)) ∙ l.invariant.1))
     ]
 

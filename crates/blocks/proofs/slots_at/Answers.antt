@@ -1,9 +1,7 @@
 -- `blocks::slots_at` meets its contract. The loop's invariant: the slots passed are cells, `cells` has them, and with what comes before the filler in the other
 -- slots they are the equation's cells. The measure is what is left of eight. It rests on the laws of one turn in `Turns`. Assumes nothing.
-use Prim.Native.Nat.{◌-◌}
 use native.Mathlib.Omega.{arith}
-use borrow.Author.Rules.{rules}
-use Rattle.blocks.proofs.Turns.{own_slots, Passed, pass_none, pass_cell, pass_filler, pass_last}
+use Rattle.blocks.proofs.Turns.{own_slots, pass_none, pass_cell, pass_filler, pass_last}
 use Rattle.blocks.proofs.slots_at.Goals as goal
 
 pub loop-len-init : goal.loop-len-init

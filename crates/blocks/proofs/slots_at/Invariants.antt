@@ -1,7 +1,5 @@
 use Prim.Native.Nat.{◌-◌}
-use native.Mathlib.Omega.{arith}
-use borrow.Author.Rules.{rules}
-use Rattle.blocks.proofs.Turns.{own_slots, Passed, pass_none, pass_cell, pass_filler, pass_last}
+use Rattle.blocks.proofs.Turns.{own_slots, Passed}
 use Rattle.blocks.proofs.slots_at.Given as goal
 
 abbrev pub invariant-loop-len : goal.invariant-loop-len

@@ -1,14 +1,10 @@
 -- `groups::copy_columns` meets its contract. The loop's invariant: storing the columns of the first cells from g on, from place g on, gives what
 -- storing all gives. The measure is what is left of them. Rests on the laws of `Storing`. Assumes nothing.
-use Prim.Native.Nat.{◌-◌, ◌≤◌}
 use mathlib.Core.Path.{◌∙◌}
 use native.Mathlib.Omega.{arith}
-use lib.ListN.{take, drop}
-use borrow.Author.Rules.{rules}
-use Rattle.lists.specs.Lists.{pad}
 use Rattle.lists.proofs.Arrays.{length_pad}
 use Rattle.lists.proofs.Counted.{counted_none, rest_more}
-use Rattle.lists.proofs.Storing.{Storing, storing_start, storing_next, storing_end}
+use Rattle.lists.proofs.Storing.{storing_start, storing_next, storing_end}
 use Rattle.blocks.specs.BlockSets.{slot_cells}
 use Rattle.blocks.proofs.Between.{slots_eight}
 use Rattle.blocks.proofs.EightCells.{cells_listed}

@@ -1,14 +1,12 @@
 -- `groups::fill_columns` meets its contract. The loop's invariant: the columns are those in the equations before e. As a cell's column has at most
 -- eight places in the end, there is room for each. The measure is what is left of the equations. Rests on the laws of `PushedColumns`. Assumes nothing.
-use Prim.Native.Nat.{◌+◌, ◌-◌, ◌≤◌}
+use Prim.Native.Nat.{◌+◌, ◌-◌}
 use mathlib.Core.Path.{◌≡◌}
 use native.Mathlib.Omega.{arith}
-use borrow.Author.Rules.{rules}
 use Rattle.blocks.specs.BlockSets.{slot_cells}
 use Rattle.blocks.specs.Places.{cells_in}
 use Rattle.blocks.proofs.Between.{listed_on_board}
 use Rattle.blocks.proofs.EightCells.{cells_listed}
-use Rattle.groups.specs.Combining.{ColumnsAre, column_in}
 use Rattle.groups.proofs.PushedColumns.{columns_none, columns_slots, columns_room, columns_next}
 use Rattle.groups.proofs.fill_columns.Goals as goal
 use Rattle.groups.proofs.fill_columns.Goals.{After-slots_at}
@@ -37,11 +35,15 @@ push_equation-requires c =
     let first = c.args.first in
     let at : first + (l.e - first) ≡ l.e = omega (arith, l.invariant.1) in
     let h = c.loop-e-test.true in
-    let below = c.requires.slots.0.below l.e h in record { on_board = (
+    let below = c.requires.slots.0.below l.e h in record {
+      on_board = (
         listed_on_board c.slots_at.result slots l.e c.slots_at.ensures c.args.end c.requires.slots.0 h,
         rw (cells (goal.at.push_equation-requires c).After-slots_at, at) (c.requires.by_index l.e l.invariant.1 h),
         omega (arith, c.requires.slots.0.few),
-      ); slots = columns_slots slots first (l.e - first) l.invariant.0 (omega (arith, c.requires.slots.0.few)); list_value = rw (cells (goal.at.push_equation-requires c).After-slots_at) (columns_room slots first (l.e - first) l.invariant.0 (c.args.end - first) (omega (arith, l.invariant.1)) c.requires.by_index_2 (rw at below)) }
+      );
+      slots = columns_slots slots first (l.e - first) l.invariant.0 (omega (arith, c.requires.slots.0.few));
+      list_value = rw (cells (goal.at.push_equation-requires c).After-slots_at) (columns_room slots first (l.e - first) l.invariant.0 (c.args.end - first) (omega (arith, l.invariant.1)) c.requires.by_index_2 (rw at below));
+    }
 
 pub loop-e-preserved : goal.loop-e-preserved
 loop-e-preserved c =

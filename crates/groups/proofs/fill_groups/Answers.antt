@@ -1,15 +1,13 @@
 -- `groups::fill_groups` meets its contract. The loop's invariant: the arrays have the groups of the cells before place i. As in the end no group has
 -- more than eight cells, a size fits. The measure is what is left of the cells. Rests on the laws of `GrownGroups`. Assumes nothing.
-use Prim.Native.Nat.{◌-◌, ◌≤◌, ◌<◌}
+use Prim.Native.Nat.{◌≤◌, ◌<◌}
 use mathlib.Core.Path.{◌≡◌}
-use mathlib.Core.Logic.{⊎_elim}
 use native.Mathlib.Omega.{arith}
 use lib.ListN.{length, get_or}
-use borrow.Author.Rules.{rules}
 use Rattle.blocks.specs.BlockSets.{slot_cells}
 use Rattle.blocks.specs.Places.{cells_from}
 use Rattle.blocks.proofs.Between.{cells_none}
-use Rattle.groups.specs.Combining.{alike_by, GroupsAre}
+use Rattle.groups.specs.Combining.{alike_by}
 use Rattle.groups.proofs.PassedEquations.{length_cells, cells_next, cells_parted, cells_on_board}
 use Rattle.groups.proofs.FirstsOfClasses.{same_equivalence}
 use Rattle.groups.proofs.GrownGroups.{groups_none, groups_few, groups_cells, groups_small, groups_within, groups_there, groups_new}
@@ -105,18 +103,18 @@ loop-i-preserved c =
     let same = same_equivalence (slot_cells c.args.columns.now) in
     let next = cells_next c.args.cells.now c.args.first l.i l.invariant.1 in
     elim c.if-g-n.branch [
-      then-g-n w ↦ (
-      rw (w.firsts-is, w.n-is, next, ← cell.ensures)
-          (groups_new same l.invariant.0 cell.result found.result on found.ensures w.if-g-n.true (room (goal.at.loop-i-preserved c).After-first_alike-g)),
-      omega arith,
-      omega arith,
-    )
+      | then-g-n w ↦ (
+        rw (w.firsts-is, w.n-is, next, ← cell.ensures)
+            (groups_new same l.invariant.0 cell.result found.result on found.ensures w.if-g-n.true (room (goal.at.loop-i-preserved c).After-first_alike-g)),
+        omega arith,
+        omega arith,
+      )
       | else-g-n w ↦ (
-      rw (w.firsts-is, w.n-is, next, ← cell.ensures)
-          (groups_there same l.invariant.0 cell.result found.result on found.ensures w.if-g-n.false),
-      omega arith,
-      omega arith,
-    )
+        rw (w.firsts-is, w.n-is, next, ← cell.ensures)
+            (groups_there same l.invariant.0 cell.result found.result on found.ensures w.if-g-n.false),
+        omega arith,
+        omega arith,
+      )
     ]
 
 pub returns : goal.returns

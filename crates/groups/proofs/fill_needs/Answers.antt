@@ -1,15 +1,12 @@
 -- `groups::fill_needs` meets its contract. The loop's invariant: the arrays have what each equation before e needs and how many cells it has, and
 -- `negative` tells of their remainders. The measure is what is left of the equations. Rests on the laws of `PassedEquations`. Assumes nothing.
-use Prim.Native.Nat.{◌-◌, ◌≤◌}
+use Prim.Native.Nat.{◌-◌}
 use mathlib.Core.Path.{◌≡◌, ap}
-use mathlib.Core.Logic.{⊎_elim}
 use native.Mathlib.Omega.{arith}
 use lib.ListN.{set}
-use borrow.Author.Rules.{rules}
 use Rattle.grid.specs.declared.window.UpToEight.{UpToEight}
-use Rattle.blocks.specs.Places.{equations_from}
 use Rattle.blocks.proofs.Between.{slots_eight}
-use Rattle.groups.proofs.PassedEquations.{Passed, passed_none, passed_negative, passed_next}
+use Rattle.groups.proofs.PassedEquations.{passed_none, passed_negative, passed_next}
 use Rattle.groups.proofs.fill_needs.Goals as goal
 use Rattle.groups.proofs.fill_needs.Goals.{else-rests-e-lt8, then-rests-e-lt8}
 
@@ -29,16 +26,16 @@ loop-e-preserved c =
     let few = c.requires.slots.0.few in
     let stored = ap (λ (n : UpToEight). set l.rooms (l.e - c.args.first) n.len) c.slots_at-list.ensures in
     elim c.if-rests-e-lt8.branch [
-      then-rests-e-lt8 w ↦ (
-      rw (w.needs-is, w.negative-is) (passed_negative slots rests c.args.first l.e l.invariant.1 (omega arith) l.needs l.rooms l.negative l.invariant.0 _ stored w.if-rests-e-lt8.true),
-      omega arith,
-      omega arith,
-    )
+      | then-rests-e-lt8 w ↦ (
+        rw (w.needs-is, w.negative-is) (passed_negative slots rests c.args.first l.e l.invariant.1 (omega arith) l.needs l.rooms l.negative l.invariant.0 _ stored w.if-rests-e-lt8.true),
+        omega arith,
+        omega arith,
+      )
       | else-rests-e-lt8 w ↦ (
-      rw (w.needs-is, w.negative-is) (passed_next slots rests c.args.first l.e l.invariant.1 (omega arith) l.needs l.rooms l.negative l.invariant.0 _ stored w.if-rests-e-lt8.false),
-      omega arith,
-      omega arith,
-    )
+        rw (w.needs-is, w.negative-is) (passed_next slots rests c.args.first l.e l.invariant.1 (omega arith) l.needs l.rooms l.negative l.invariant.0 _ stored w.if-rests-e-lt8.false),
+        omega arith,
+        omega arith,
+      )
     ]
 
 pub returns : goal.returns

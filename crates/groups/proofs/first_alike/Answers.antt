@@ -1,12 +1,10 @@
 -- `groups::first_alike` meets its contract. The loop's invariant: the g cells passed, and the first place among those from g on, are the first place
 -- among all. The measure is what is left of them. Rests on `first_place_next` and `first_place_here`. Assumes nothing.
-use Prim.Native.Nat.{◌+◌, ◌-◌, ◌≤◌}
+use Prim.Native.Nat.{◌+◌}
 use mathlib.Core.Path.{◌≡◌, sym, ◌∙◌}
 use mathlib.Core.List.{◌∷◌}
 use native.Mathlib.Omega.{arith}
 use lib.ListN.{take, drop}
-use borrow.Author.Rules.{rules}
-use Rattle.lists.specs.Lists.{first_place}
 use Rattle.lists.proofs.FirstPlaces.{first_place_here, first_place_next}
 use Rattle.lists.proofs.Counted.{counted_none, rest_more}
 use Rattle.groups.specs.Combining.{alike_by}

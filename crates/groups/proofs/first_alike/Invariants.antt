@@ -1,12 +1,7 @@
-use Prim.Native.Nat.{◌+◌, ◌-◌, ◌≤◌}
-use mathlib.Core.Path.{◌≡◌, sym, ◌∙◌}
-use mathlib.Core.List.{◌∷◌}
-use native.Mathlib.Omega.{arith}
+use Prim.Native.Nat.{◌+◌, ◌≤◌}
+use mathlib.Core.Path.{◌≡◌}
 use lib.ListN.{take, drop}
-use borrow.Author.Rules.{rules}
 use Rattle.lists.specs.Lists.{first_place}
-use Rattle.lists.proofs.FirstPlaces.{first_place_here, first_place_next}
-use Rattle.lists.proofs.Counted.{counted_none, rest_more}
 use Rattle.groups.specs.Combining.{alike_by}
 use Rattle.groups.proofs.first_alike.Given as goal
 

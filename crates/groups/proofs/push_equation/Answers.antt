@@ -1,13 +1,12 @@
 -- `groups::push_equation` meets its contract. The loop's invariant: the first k cells of the equation have its place behind their columns, and
 -- every other column is as it was. The measure is what is left of the cells. Rests on the laws of `PushedColumns`. Assumes nothing.
-use Prim.Native.Nat.{◌-◌, ◌≤◌, ◌<◌}
+use Prim.Native.Nat.{◌<◌}
 use mathlib.Core.Path.{◌≡◌, sym, ◌∙◌}
 use native.Mathlib.Omega.{arith}
-use lib.ListN.{length, get_or, take, length-take}
+use lib.ListN.{length, get_or, length-take}
 use lib.Seq.{get_or-take, take_all, length-take-le}
 use borrow.Author.Rules.{rules}
 use Rattle.blocks.specs.Places.{cells_in}
-use Rattle.groups.specs.Combining.{ColumnsAre, column_with}
 use Rattle.groups.proofs.PushedColumns.{Pushable, push_none, push_on_board, push_room, push_next}
 use Rattle.groups.proofs.push_equation.Goals as goal
 use Rattle.groups.proofs.push_equation.Goals.{After-wide, Start}

@@ -2,7 +2,6 @@
 -- Rests on `pushed_list`. Assumes nothing.
 use Prim.Native.Nat.{◌<◌}
 use native.Mathlib.Omega.{arith}
-use borrow.Author.Rules.{rules}
 use Rattle.blocks.specs.BlockSets.{slot_cells}
 use Rattle.groups.proofs.PushedColumns.{pushed_few, pushed_list}
 use Rattle.groups.proofs.push_slot.Goals as goal

@@ -1,9 +1,7 @@
 -- `groups::same_columns` meets its contract. The loop's invariant: the slots from k on are equal, up to the filler, where the columns are. The measure is
 -- what is left of eight. Rests on the turns of `ComparedColumns`. Assumes nothing.
-use Prim.Native.Nat.{◌-◌}
 use native.Mathlib.Omega.{arith}
-use borrow.Author.Rules.{rules}
-use Rattle.groups.proofs.ComparedColumns.{SameFrom, same_from_first, same_from_last, same_from_differs, same_from_filler, same_from_next}
+use Rattle.groups.proofs.ComparedColumns.{same_from_first, same_from_last, same_from_differs, same_from_filler, same_from_next}
 use Rattle.groups.proofs.same_columns.Goals as goal
 
 pub loop-k-init : goal.loop-k-init

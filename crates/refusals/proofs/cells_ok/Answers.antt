@@ -1,9 +1,6 @@
 -- `cells_ok` meets its contract. The loop's invariant: the cells from i on all pass exactly where all the cells do. Rests on the laws of such a loop
 -- over any test and on the contract of `cell_ok`. Assumes nothing.
-use Prim.Native.Nat.{◌-◌}
-use borrow.Author.Rules.{rules}
-use Rattle.lists.proofs.Loops.{AllLeft, all_next, all_fails, all_done}
-use Rattle.refusals.specs.SharedTests.{cell_in}
+use Rattle.lists.proofs.Loops.{all_next, all_fails, all_done}
 use Rattle.refusals.proofs.FirstFailure.{passed, failed}
 use mathlib.Core.Path.{ap}
 use mathlib.Core.Bool.{not}

@@ -1,9 +1,6 @@
 -- `lengths_ok` meets its contract. The loop's invariant: the lengths from i on all pass exactly where all of them do. Rests on the laws of such a loop
 -- over any test and on the contract of `length_ok`. Assumes nothing.
-use Prim.Native.Nat.{◌-◌}
-use borrow.Author.Rules.{rules}
-use Rattle.lists.proofs.Loops.{AllLeft, all_next, all_fails, all_done}
-use Rattle.refusals.specs.Tests.{length_ok}
+use Rattle.lists.proofs.Loops.{all_next, all_fails, all_done}
 use Rattle.refusals.proofs.FirstFailure.{passed, failed}
 use mathlib.Core.Path.{ap}
 use mathlib.Core.Bool.{not}

@@ -2,16 +2,13 @@
 -- `count_beside`, whose count around a row and a column is one around the cell's number. Assumes nothing.
 use mathlib.Core.Path.{◌≡◌, sym}
 use mathlib.Core.Logic.{⊎_elim}
-use mathlib.Core.Bool.{true}
-use Prim.Native.Nat.{◌≤◌, ◌-◌}
 use native.Mathlib.Omega.{arith}
 use borrow.Author.Rules.{rules}
 use lib.ListN.{length}
-use Rattle.lists.specs.Lists.{every}
 use Rattle.lists.proofs.Tests.{every_more, every_fails}
 use Rattle.grid.specs.Window.{neighbours}
 use Rattle.refusals.specs.Tests.{numbers_ok}
-use Rattle.grid.proofs.Places.{few_cells, some_column, place_on}
+use Rattle.grid.proofs.Places.{few_cells, place_on}
 use Rattle.refusals.proofs.Numbers.{number_ok, mine_passes, number_passes, number_fails}
 use Rattle.refusals.proofs.numbers_ok.Goals as goal
 use Rattle.refusals.proofs.numbers_ok.Goals.{else-v, then-v+else-mines-wide_byte}

@@ -1,5 +1,4 @@
 -- `size_ok` meets its contract: each arm rewrites the first half of the definition's "and". Rests on the contract of `side_ok`. Assumes nothing.
-use borrow.Author.Rules.{rules}
 use Rattle.refusals.specs.Tests.{size_ok}
 use Rattle.refusals.proofs.size_ok.Goals as goal
 

@@ -3,7 +3,6 @@
 use mathlib.Core.Path.{◌≡◌, sym, ◌∙◌}
 use mathlib.Core.Bool.{true}
 use native.Mathlib.Omega.{arith}
-use borrow.Author.Rules.{rules}
 use Rattle.refusals.specs.Tests.{start_ok, start_safe}
 use Rattle.refusals.proofs.Starts.{start_cell_within}
 use Rattle.refusals.proofs.start_safe.Goals as goal

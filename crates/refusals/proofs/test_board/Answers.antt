@@ -2,10 +2,8 @@
 -- board alone, and the others follow; the last is asked of a start off the board too, where test 4 has answered. Rests on the law of two lists of tests and on the
 -- contracts of the calls. Assumes nothing.
 use mathlib.Core.Path.{◌≡◌, refl, sym, ◌∙◌}
-use mathlib.Core.Logic.{⊎_elim}
 use mathlib.Core.Bool.{Bool, true, false, not, cond, ◌||◌, and-true, and-false}
 use mathlib.Core.List.{◌++◌}
-use borrow.Author.Rules.{rules}
 use lib.ListN.{drop}
 use Rattle.lists.specs.Lists.{all}
 use Rattle.grid.specs.Window.{neighbours, Board}

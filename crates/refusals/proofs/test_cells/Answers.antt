@@ -1,6 +1,5 @@
 -- `test_cells` meets its contract: a return after some tests is what the list of tests gives where the earlier ones pass. Rests on the contracts of the
 -- single tests and of `first_refusal`. Assumes nothing.
-use borrow.Author.Rules.{rules}
 use Rattle.refusals.proofs.Sides.{size_ok_sized}
 use Rattle.refusals.proofs.FirstFailure.{passed, failed}
 use mathlib.Core.Path.{ap}

@@ -1,9 +1,7 @@
 -- `test_deduction` meets its contract: where the size is right a list that is too short fails test 2, whatever the position's length; else test 2 is that of the
 -- position alone. Rests on the contracts of the single tests and of `test_position`. Assumes nothing.
 use mathlib.Core.Path.{sym, ◌∙◌}
-use mathlib.Core.Logic.{⊎_elim}
 use mathlib.Core.Bool.{and-true, and-false}
-use borrow.Author.Rules.{rules}
 use Rattle.refusals.specs.Tests.{position_tested, deduction_tested}
 use Rattle.refusals.proofs.Sides.{size_ok_sized}
 use Rattle.refusals.proofs.FirstFailure.{passed, failed}

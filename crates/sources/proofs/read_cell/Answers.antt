@@ -1,7 +1,6 @@
 -- `sources::read_cell` meets its contract: the two ways out pass a cell that is no source, and the last adds one. Rests on the laws of sources.
 -- Assumes nothing.
 use native.Mathlib.Omega.{arith}
-use borrow.Author.Rules.{rules}
 use borrow.Author.Tests.{not-true, not-false}
 use Rattle.sources.proofs.SourceLaws.{read_pass, read_source, not_open, none_closed, is_source_lem, listed_few}
 use mathlib.Core.Path.{ap}

@@ -1,13 +1,11 @@
 -- `sources::read_row` meets its contract. The loop's invariant: the sources before the row's cell at `column` are read. The measure is the columns
 -- left. Assumes nothing.
-use Prim.Native.Nat.{◌+◌, ◌-◌, ◌*◌, ◌≤◌}
+use Prim.Native.Nat.{◌+◌, ◌*◌}
 use mathlib.Core.Path.{◌≡◌}
 use native.Mathlib.Nat.{suc-mul}
 use native.Mathlib.Numerals.{add-one}
 use native.Mathlib.Omega.{arith}
 use borrow.Author.Rules.{rules}
-use Rattle.grid.specs.Window.{neighbours}
-use Rattle.sources.specs.Reading.{Read}
 use Rattle.sources.proofs.read_row.Goals as goal
 
 pub loop-column-init : goal.loop-column-init

@@ -1,12 +1,9 @@
 -- `sources::read_sources` meets its contract. The loop's invariant: the sources of the rows before `row` are read. The measure is the rows left.
 -- Assumes nothing.
-use Prim.Native.Nat.{◌-◌, ◌*◌, ◌≤◌}
 use mathlib.Core.Path.{◌≡◌}
 use native.Mathlib.Nat.{zero-mul}
 use native.Mathlib.Omega.{arith}
 use borrow.Author.Rules.{rules}
-use Rattle.grid.specs.Window.{neighbours}
-use Rattle.sources.specs.Reading.{Read}
 use Rattle.sources.proofs.read_sources.Goals as goal
 
 pub loop-row-init : goal.loop-row-init

@@ -1,8 +1,4 @@
-use Prim.Native.Nat.{◌-◌, ◌*◌, ◌≤◌}
-use mathlib.Core.Path.{◌≡◌}
-use native.Mathlib.Nat.{zero-mul}
-use native.Mathlib.Omega.{arith}
-use borrow.Author.Rules.{rules}
+use Prim.Native.Nat.{◌*◌, ◌≤◌}
 use Rattle.grid.specs.Window.{neighbours}
 use Rattle.sources.specs.Reading.{Read}
 use Rattle.sources.proofs.read_sources.Given as goal

@@ -16,7 +16,7 @@ pub returns-then-not-read : goal.returns-then-not-read
 unfolding table_line
 returns-then-not-read c =
     unreadable_written _ c.read_line-read.result c.read_line-read.ensures (λ l. tables_after (answer_to l).tested l (answer_to l).blocks.blocks)
-    (not-true c.read_line-read.result.readable (ap not c.if-not-read.true)) c.put_bytes.ensures
+    (not-true c.read_line-read.result.readable c.if-not-read.true) c.put_bytes.ensures
 
 pub slice_bounds-cells-end : goal.slice_bounds-cells-end
 slice_bounds-cells-end c = line_fits _ _ c.read_line-read.ensures
@@ -33,10 +33,10 @@ slice_bounds-put_tables-end c = simp length-take (omega (arith, line_fits _ _ c.
 pub returns-in-Refused : goal.returns-in-Refused
 returns-in-Refused c =
     let told = c.in-Refused.is in
-    table_line_written _ _ c.read_line-read.ensures (not-false _ (ap not c.if-not-read.false)) _ c.refresh_matrixs-answer.ensures
+    table_line_written _ _ c.read_line-read.ensures (not-false _ c.if-not-read.false) _ c.refresh_matrixs-answer.ensures
     (tables_after_lem _ _ _ told c.put_refused.ensures)
 
 pub returns-in-Accepted : goal.returns-in-Accepted
 returns-in-Accepted c =
-    table_line_written _ _ c.read_line-read.ensures (not-false _ (ap not c.if-not-read.false)) _ c.refresh_matrixs-answer.ensures
+    table_line_written _ _ c.read_line-read.ensures (not-false _ c.if-not-read.false) _ c.refresh_matrixs-answer.ensures
     (tables_after_lem _ _ _ c.in-Accepted.is c.put_tables.ensures)

@@ -1,16 +1,8 @@
 -- `grid::window::count_beside` meets its contract. The loop's invariant: those found and those still to be found, among the neighbours from slot t on,
 -- are as many as all that show the value; at most t are found. The measure is what is left of the array. Rests on `near_more`. Assumes nothing.
-use Prim.Native.Nat.{◌+◌, ◌-◌, ◌*◌, ◌≤◌, ◌<◌}
-use mathlib.Core.Path.{◌≡◌}
-use mathlib.Core.Logic.{⊎_elim}
+use Prim.Native.Nat.{◌<◌}
 use native.Mathlib.Omega.{arith}
-use lib.Dec.{eqb}
-use lib.ListN.{drop}
-use borrow.Author.Rules.{rules}
 use borrow.Author.Tests.{eq-eqb, ne_eqb}
-use Rattle.lists.specs.Lists.{count}
-use Rattle.grid.specs.Cells.{cell_of}
-use Rattle.grid.specs.Window.{neighbours}
 use Rattle.grid.proofs.Listed.{near_few, near_on, near_more, near_none}
 use Rattle.grid.proofs.window.count_beside.Goals as goal
 use Rattle.grid.proofs.window.count_beside.Goals.{In-loop-t-unread, else-cells-c, then-cells-c}
@@ -43,7 +35,7 @@ loop-t-preserved c =
     let next = near_more _ _ _ _ _ _ on near _ _ c.loop-t-test.true c.wide-c.ensures in
     let inv = rw next at c.loop-t.invariant.0 in
     elim c.if-cells-c.branch [
-      then-cells-c w ↦ (omega (arith, rw (eq-eqb _ _ w.if-cells-c.true) at inv), omega arith)
+      | then-cells-c w ↦ (omega (arith, rw (eq-eqb _ _ w.if-cells-c.true) at inv), omega arith)
       | else-cells-c w ↦ (omega (arith, rw (ne_eqb _ _ w.if-cells-c.false) at inv), omega arith)
     ]
 

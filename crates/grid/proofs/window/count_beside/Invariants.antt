@@ -1,15 +1,10 @@
-use Prim.Native.Nat.{◌+◌, ◌-◌, ◌*◌, ◌≤◌, ◌<◌}
+use Prim.Native.Nat.{◌+◌, ◌*◌, ◌≤◌}
 use mathlib.Core.Path.{◌≡◌}
-use mathlib.Core.Logic.{⊎_elim}
-use native.Mathlib.Omega.{arith}
 use lib.Dec.{eqb}
 use lib.ListN.{drop}
-use borrow.Author.Rules.{rules}
-use borrow.Author.Tests.{eq-eqb, ne_eqb}
 use Rattle.lists.specs.Lists.{count}
 use Rattle.grid.specs.Cells.{cell_of}
 use Rattle.grid.specs.Window.{neighbours}
-use Rattle.grid.proofs.Listed.{near_few, near_on, near_more, near_none}
 use Rattle.grid.proofs.window.count_beside.Given as goal
 
 abbrev pub invariant-loop-t : goal.invariant-loop-t

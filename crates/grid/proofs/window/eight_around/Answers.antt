@@ -1,7 +1,6 @@
 -- `window::eight_around` meets its contract: a row and a cell stand before the cell, so that no difference falls below 0. Rests on Inner. Assumes nothing.
 use Prim.Native.Nat.{◌+◌, ◌≤◌}
 use native.Mathlib.Omega.{arith}
-use borrow.Author.Rules.{rules}
 use Rattle.grid.proofs.Inner.{row_above}
 use Rattle.grid.proofs.window.eight_around.Goals as goal
 use Rattle.grid.proofs.window.eight_around.Goals.{After-cell_number-own}

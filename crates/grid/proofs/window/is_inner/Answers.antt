@@ -1,5 +1,4 @@
 -- `window::is_inner` meets its contract, by its two ways. Assumes nothing.
-use borrow.Author.Rules.{rules}
 use borrow.Author.Tests.{lt-ltb, le-ltb}
 use Rattle.grid.proofs.window.is_inner.Goals as goal
 

@@ -1,5 +1,4 @@
 -- `grid::window::low` meets its contract. Assumes nothing.
-use borrow.Author.Rules.{rules}
 use Rattle.grid.proofs.Lines.{low_other, low_wrapped, low_flat}
 use Rattle.grid.proofs.window.low.Goals as goal
 

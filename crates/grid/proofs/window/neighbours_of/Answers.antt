@@ -2,7 +2,6 @@
 -- the calls. Assumes nothing.
 use mathlib.Core.Path.{◌≡◌, sym, ap, ◌∙◌}
 use mathlib.Core.Bool.{true}
-use borrow.Author.Rules.{rules}
 use Rattle.grid.specs.Window.{is_inner, listed}
 use Rattle.grid.proofs.Inner.{inner_neighbours}
 use Rattle.grid.proofs.window.neighbours_of.Goals as goal

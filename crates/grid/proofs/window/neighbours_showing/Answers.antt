@@ -1,19 +1,17 @@
 -- `grid::window::neighbours_showing` meets its contract. The loop's invariant: what is kept so far and what is still to be kept, of the neighbours from
 -- slot t on, are all the neighbours that show the value. The measure is what is left of the array. Rests on `near_more` and the laws of `Collected`. Assumes nothing.
-use Prim.Native.Nat.{ℕ, ◌+◌, ◌-◌, ◌*◌, ◌≤◌, ◌<◌}
-use mathlib.Core.Logic.{⊎_elim}
+use Prim.Native.Nat.{ℕ, ◌+◌, ◌*◌, ◌≤◌, ◌<◌}
 use mathlib.Core.Bool.{Bool}
 use mathlib.Core.List.{List}
 use native.Mathlib.Omega.{arith}
 use lib.Dec.{eqb}
-use lib.ListN.{length, drop}
-use borrow.Author.Rules.{rules}
+use lib.ListN.{length}
 use borrow.Author.Tests.{eq-eqb, ne_eqb}
 use Rattle.lists.specs.Lists.{keep}
 use Rattle.grid.specs.Cells.{cell_of}
 use Rattle.grid.specs.Window.{neighbours}
 use Rattle.grid.proofs.Neighbours.{neighbours_few}
-use Rattle.lists.proofs.Collected.{Collected, keep_few, collected_none, collected_room, collected_push, collected_all}
+use Rattle.lists.proofs.Collected.{keep_few, collected_none, collected_room, collected_push, collected_all}
 use Rattle.grid.proofs.Listed.{near_few, near_on, near_more, near_none}
 use Rattle.grid.proofs.window.neighbours_showing.Goals as goal
 use Rattle.grid.proofs.window.neighbours_showing.Goals.{In-loop-t-unread, Start, Then-cells-cell, else-cells-cell, then-cells-cell}
@@ -75,7 +73,7 @@ loop-t-preserved c =
     let next = near_more _ _ _ _ _ _ c.requires.on near _ _ c.loop-t-test.true at in
     let inv = rw next at c.loop-t.invariant in
     elim c.if-cells-cell.branch [
-      then-cells-cell w ↦ rw (w.kept-is, w.len-is, ← at) (collected_push (rw (eq-eqb _ _ w.if-cells-cell.true) at inv) (few (goal.at.loop-t-preserved c).Start))
+      | then-cells-cell w ↦ rw (w.kept-is, w.len-is, ← at) (collected_push (rw (eq-eqb _ _ w.if-cells-cell.true) at inv) (few (goal.at.loop-t-preserved c).Start))
       | else-cells-cell w ↦ rw (w.kept-is, w.len-is) (rw (ne_eqb _ _ w.if-cells-cell.false) at inv)
     ]
 

@@ -1,18 +1,10 @@
-use Prim.Native.Nat.{ℕ, ◌+◌, ◌-◌, ◌*◌, ◌≤◌, ◌<◌}
-use mathlib.Core.Logic.{⊎_elim}
-use mathlib.Core.Bool.{Bool}
-use mathlib.Core.List.{List}
-use native.Mathlib.Omega.{arith}
+use Prim.Native.Nat.{◌+◌, ◌*◌}
 use lib.Dec.{eqb}
-use lib.ListN.{length, drop}
-use borrow.Author.Rules.{rules}
-use borrow.Author.Tests.{eq-eqb, ne_eqb}
+use lib.ListN.{drop}
 use Rattle.lists.specs.Lists.{keep}
 use Rattle.grid.specs.Cells.{cell_of}
 use Rattle.grid.specs.Window.{neighbours}
-use Rattle.grid.proofs.Neighbours.{neighbours_few}
-use Rattle.lists.proofs.Collected.{Collected, keep_few, collected_none, collected_room, collected_push, collected_all}
-use Rattle.grid.proofs.Listed.{near_few, near_on, near_more, near_none}
+use Rattle.lists.proofs.Collected.{Collected}
 use Rattle.grid.proofs.window.neighbours_showing.Given as goal
 
 abbrev pub invariant-loop-t : goal.invariant-loop-t

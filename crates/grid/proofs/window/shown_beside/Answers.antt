@@ -1,18 +1,13 @@
 -- `grid::window::shown_beside` meets its contract. The invariant of both loops: nothing is found yet, and a cell that the walk has still to visit shows the
 -- value, the cell itself left out, exactly when a neighbour does. Where the search stops, the next cell of the walk is that neighbour. The measures are the rows
 -- and the columns left. Rests on the laws of `Walk`. Assumes nothing.
-use Prim.Native.Nat.{◌+◌, ◌-◌, ◌*◌}
+use Prim.Native.Nat.{◌+◌, ◌*◌}
 use mathlib.Core.Path.{◌≡◌, refl, ◌∙◌}
-use mathlib.Core.Logic.{⊎_elim}
-use mathlib.Core.Bool.{false}
-use lib.Dec.{eqb}
 use native.Mathlib.Omega.{arith}
 use borrow.Author.Rules.{rules}
 use borrow.Author.Tests.{eq-eqb, ne_eqb}
-use Rattle.lists.specs.Lists.{any, without}
-use Rattle.grid.specs.Cells.{cell_of}
-use Rattle.grid.specs.Window.{folded, neighbours}
-use Rattle.grid.proofs.Walk.{rows_from, cells_from, enter, leave, done, pass_other, pass_own, walk_neighbours}
+use Rattle.grid.specs.Window.{folded}
+use Rattle.grid.proofs.Walk.{enter, leave, done, pass_other, pass_own, walk_neighbours}
 use Rattle.grid.proofs.window.shown_beside.Goals as goal
 use Rattle.grid.proofs.window.shown_beside.Goals.{After-cell_number-cell, else-cell-own, then-cell-own+else-cells-cell}
 
@@ -45,9 +40,9 @@ loop-n-preserved c =
     let inv = c.loop-n.invariant.1 in (
       search rules,
       elim c.if-cell-own.branch [
-      then-cell-own+else-cells-cell w ↦ let other = w.if-cell-own.true in rw (ne_eqb _ _ w.if-cells-cell.false) at (rw (pass_other c.cell_number-cell.result) at inv)
-      | else-cell-own w ↦ let own = w.if-cell-own.false in rw (pass_own c.cell_number-cell.result) at inv
-    ],
+        | then-cell-own+else-cells-cell w ↦ let other = w.if-cell-own.true in rw (ne_eqb _ _ w.if-cells-cell.false) at (rw (pass_other c.cell_number-cell.result) at inv)
+        | else-cell-own w ↦ let own = w.if-cell-own.false in rw (pass_own c.cell_number-cell.result) at inv
+      ],
     )
 
 pub outer-preserved : goal.outer-preserved

@@ -1,15 +1,11 @@
-use Prim.Native.Nat.{◌+◌, ◌-◌, ◌*◌}
-use mathlib.Core.Path.{◌≡◌, refl, ◌∙◌}
-use mathlib.Core.Logic.{⊎_elim}
+use Prim.Native.Nat.{◌+◌, ◌*◌}
+use mathlib.Core.Path.{◌≡◌}
 use mathlib.Core.Bool.{false}
 use lib.Dec.{eqb}
-use native.Mathlib.Omega.{arith}
-use borrow.Author.Rules.{rules}
-use borrow.Author.Tests.{eq-eqb, ne_eqb}
 use Rattle.lists.specs.Lists.{any, without}
 use Rattle.grid.specs.Cells.{cell_of}
-use Rattle.grid.specs.Window.{folded, neighbours}
-use Rattle.grid.proofs.Walk.{rows_from, cells_from, enter, leave, done, pass_other, pass_own, walk_neighbours}
+use Rattle.grid.specs.Window.{neighbours}
+use Rattle.grid.proofs.Walk.{rows_from, cells_from}
 use Rattle.grid.proofs.window.shown_beside.Given as goal
 
 abbrev pub invariant-loop-n : goal.invariant-loop-n

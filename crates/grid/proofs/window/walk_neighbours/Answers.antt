@@ -1,16 +1,13 @@
 -- `grid::window::walk_neighbours` meets its contract. The invariant of both loops: what is collected so far and what the walk has still to visit, without the
 -- cell itself, are the cell's neighbours. These are at most eight, so there is room for each. The measures are the rows and the columns left.
 -- Rests on the laws of `Walk` and `Collected`. Assumes nothing.
-use Prim.Native.Nat.{◌+◌, ◌-◌, ◌*◌, ◌<◌}
+use Prim.Native.Nat.{◌+◌, ◌*◌, ◌<◌}
 use mathlib.Core.Path.{◌≡◌, ◌∙◌}
-use mathlib.Core.Logic.{⊎_elim}
 use native.Mathlib.Omega.{arith}
-use borrow.Author.Rules.{rules}
-use Rattle.lists.specs.Lists.{without}
-use Rattle.grid.specs.Window.{folded, neighbours}
+use Rattle.grid.specs.Window.{folded}
 use Rattle.grid.proofs.Neighbours.{neighbours_few}
-use Rattle.grid.proofs.Walk.{rows_from, cells_from, enter, leave, done, pass_other, pass_own, walk_neighbours}
-use Rattle.lists.proofs.Collected.{Collected, collected_none, collected_room, collected_push, collected_all}
+use Rattle.grid.proofs.Walk.{enter, leave, done, pass_other, pass_own, walk_neighbours}
+use Rattle.lists.proofs.Collected.{collected_none, collected_room, collected_push, collected_all}
 use Rattle.grid.proofs.window.walk_neighbours.Goals as goal
 use Rattle.grid.proofs.window.walk_neighbours.Goals.{After-cell_number-c, Then-c-own, else-c-own, then-c-own}
 
@@ -62,7 +59,7 @@ loop-n-preserved c =
     let few = neighbours_few _ _ _ _ in
     let inv = c.loop-n.invariant in
     elim c.if-c-own.branch [
-      then-c-own w ↦ let other = w.if-c-own.true in rw (w.cells-is, w.len-is) (collected_push (rw (pass_other c.cell_number-c.result) at inv) few)
+      | then-c-own w ↦ let other = w.if-c-own.true in rw (w.cells-is, w.len-is) (collected_push (rw (pass_other c.cell_number-c.result) at inv) few)
       | else-c-own w ↦ let own = w.if-c-own.false in rw (w.cells-is, w.len-is) (rw (pass_own c.cell_number-c.result) at inv)
     ]
 

@@ -1,13 +1,8 @@
-use Prim.Native.Nat.{◌+◌, ◌-◌, ◌*◌, ◌<◌}
-use mathlib.Core.Path.{◌≡◌, ◌∙◌}
-use mathlib.Core.Logic.{⊎_elim}
-use native.Mathlib.Omega.{arith}
-use borrow.Author.Rules.{rules}
+use Prim.Native.Nat.{◌+◌, ◌*◌}
 use Rattle.lists.specs.Lists.{without}
-use Rattle.grid.specs.Window.{folded, neighbours}
-use Rattle.grid.proofs.Neighbours.{neighbours_few}
-use Rattle.grid.proofs.Walk.{rows_from, cells_from, enter, leave, done, pass_other, pass_own, walk_neighbours}
-use Rattle.lists.proofs.Collected.{Collected, collected_none, collected_room, collected_push, collected_all}
+use Rattle.grid.specs.Window.{neighbours}
+use Rattle.grid.proofs.Walk.{rows_from, cells_from}
+use Rattle.lists.proofs.Collected.{Collected}
 use Rattle.grid.proofs.window.walk_neighbours.Given as goal
 
 abbrev pub invariant-loop-n : goal.invariant-loop-n

@@ -1,6 +1,5 @@
 -- `grid::window::window_of` meets its contract: the sides are what `low` and `high` give, which are those of `window_at`, and the bounds follow from them.
 -- Assumes nothing.
-use borrow.Author.Rules.{rules}
 use native.Mathlib.Omega.{arith}
 use Rattle.grid.proofs.Neighbours.{high_bound}
 use Rattle.grid.proofs.window.window_of.Goals as goal

@@ -1,24 +1,12 @@
-use mathlib.Core.Path.{refl}
 use mathlib.Core.List.{map}
-use Prim.Native.Nat.{◌-◌, ◌*◌, ◌≤◌, ◌<◌}
-use native.Mathlib.Omega.{arith}
+use Prim.Native.Nat.{◌*◌, ◌≤◌}
 use lib.ListN.{take, drop, replicate}
 use lib.Seq.{sets}
-use borrow.Author.Rules.{rules}
 use Rattle.lists.specs.Lists.{joined}
-use Rattle.lists.proofs.Counted.{counted_none}
-use Rattle.grid.specs.Cells.{shows}
 use Rattle.grid.specs.Window.{neighbours}
-use Rattle.blocks.specs.BlockSets.{slot_cells}
-use Rattle.blocks.proofs.EightCells.{cells_listed}
-use Rattle.blocks.proofs.Between.{slots_eight}
-use Rattle.sources.specs.Reading.{Cells}
 use Rattle.sources.specs.Equations.{rest_at}
-use Rattle.sources.proofs.Found.{found_more, found_on_board, found_open}
-use Rattle.sources.proofs.SourceLaws.{read_none}
-use Rattle.sources.proofs.Written.{Written, written_none, written_more}
-use Rattle.sources.proofs.ReadSources.{all_open_lem, all_listed, listed_cells}
-use Rattle.sources.proofs.PlainReading.{slots_beside, length_beside, equations_stored}
+use Rattle.sources.proofs.Written.{Written}
+use Rattle.sources.proofs.PlainReading.{slots_beside}
 use Rattle.sources.proofs.equations.read_equations.Given as goal
 
 abbrev pub invariant-loop-i : goal.invariant-loop-i

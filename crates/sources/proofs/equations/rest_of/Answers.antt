@@ -2,8 +2,7 @@
 -- mines, so that the difference does not go below 0. Rests on the laws of `Remainders`. Assumes nothing.
 use mathlib.Core.Path.{◌∙◌}
 use native.Mathlib.Omega.{arith}
-use borrow.Author.Rules.{rules}
-use Rattle.grid.proofs.Places.{some_column, place_on}
+use Rattle.grid.proofs.Places.{place_on}
 use Rattle.sources.proofs.Remainders.{counted_few, shown, rest_known}
 use Rattle.sources.proofs.equations.rest_of.Goals as goal
 
