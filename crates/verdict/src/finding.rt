@@ -43,8 +43,8 @@ fn graded(found: Lists, grade: usize) -> Finding
 }
 
 // Did a rule find a cell?
-fn found_cell(found: Lists) -> bool
-    ensures { result ≡ found_cell found }
+fn found_cell(found: &Lists) -> bool
+    ensures { result ≡ found_cell found.now }
 {
     if found.safe.count == 0 {
         found.mines.count != 0
@@ -61,7 +61,7 @@ fn find_in_blocks(set: BlockSet) -> Finding
     ensures { result ≡ later_finding (minus_lists (blocks_of set)) (lists_in (rule_answer (enumerated (blocks_of set)))) }
 {
     let minus = minus_cells(set);
-    if found_cell(minus) {
+    if found_cell(&minus) {
         return graded(minus, 2);
     }
     graded(lists_of(enumerate_rule(set)), 3)
@@ -78,7 +78,7 @@ pub fn find_cells(edgeless: bool, rows: usize, columns: usize, position: &[u8]) 
     let mut rests = [0u8; 1024];
     let len = read_equations(edgeless, rows, columns, position, &mut slots, &mut rests);
     let direct = swept_cells(&slots, &rests, len);
-    if found_cell(direct) {
+    if found_cell(&direct) {
         return graded(direct, 1);
     }
     find_in_blocks(read_blocks(edgeless, rows, columns, position))
