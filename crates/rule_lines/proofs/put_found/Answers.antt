@@ -8,7 +8,7 @@ use Rattle.rule_lines.proofs.put_found.Goals as goal
 
 pub returns : goal.returns
 returns c =
-    found_written (seen c.args.answer c.args.position.now c.args.safe.now c.args.mines.now) c.requires c.put_bytes-at.ensures c.put_numbers-at.ensures
+    found_written (seen c.args.answer.now c.args.position.now c.args.safe.now c.args.mines.now) c.requires c.put_bytes-at.ensures c.put_numbers-at.ensures
     c.put_bytes-at-2.ensures c.put_numbers-at-2.ensures c.put_bytes-at-3.ensures c.put_cells.ensures
 
 pub shape_of-out : goal.shape_of-out

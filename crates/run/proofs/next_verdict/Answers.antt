@@ -1,0 +1,40 @@
+-- `next_verdict` meets its contract: a whole record stands inside the input, so its cells are a part of it. Assumes nothing.
+use mathlib.Core.Path.{◌≡◌, sym, ◌∙◌}
+use mathlib.Core.List.{List}
+use Prim.Native.Nat.{ℕ, ◌≤◌}
+use native.Mathlib.Omega.{arith}
+use lib.ListN.{length}
+use Rattle.records.specs.declared.Record.TheVariants.{Whole}
+use Rattle.records.specs.Records.{record_of}
+use Rattle.records.proofs.RecordKinds.{length_six, whole_inside}
+use Rattle.run.proofs.Fronts.{next_end, next_damage, next_whole}
+use borrow.Author.Rules.{rules}
+use Rattle.run.proofs.next_verdict.Goals as goal
+use Rattle.run.proofs.next_verdict.Goals.{After-record_length-end}
+
+-- the part of the input
+abbrev input : After-record_length-end → List ℕ
+input c = c.args.input.now
+
+-- the record is whole, and stands inside the input
+whole : (c : After-record_length-end)
+    → let fields = c.mark-1.given.0 in record_of (input c) ≡ Whole c.in-Whole.mark c.in-Whole.rows c.in-Whole.columns c.in-Whole.row c.in-Whole.column
+whole c = sym c.read_record.ensures ∙ c.in-Whole.is
+
+head : (c : After-record_length-end) → 6 ≤ c.record_length-end.result
+head c = length_six _ c.record_length-end.ensures.value
+
+inside : (c : After-record_length-end) → c.record_length-end.result ≤ length (input c)
+inside c = omega (arith, c.record_length-end.ensures.value, whole_inside _ _ _ _ _ _ (whole c))
+
+pub slice_bounds-board_verdict-count : goal.slice_bounds-board_verdict-count
+slice_bounds-board_verdict-count c = head c
+
+pub returns-in-End : goal.returns-in-End
+returns-in-End c = next_end _ _ (sym c.read_record.ensures ∙ c.in-End.is) c.next_after_end.ensures
+
+pub returns-in-Damaged : goal.returns-in-Damaged
+returns-in-Damaged c = next_damage _ _ _ (sym c.read_record.ensures ∙ c.in-Damaged.is) c.next_after_damage.ensures
+
+pub returns-in-Whole : goal.returns-in-Whole
+returns-in-Whole c = next_whole _ _ _ _ _ _ _ _ (whole (goal.at.returns-in-Whole c).After-record_length-end) c.record_length-end.ensures.value c.board_verdict-verdict.ensures
