@@ -15,7 +15,7 @@ pub returns-then-not-read : goal.returns-then-not-read
 unfolding bbbv_line
 returns-then-not-read c =
     unreadable_written _ c.read_line-read.result c.read_line-read.ensures (λ l. bbbv_text (bbbv_of l))
-    (not-true c.read_line-read.result.readable (ap not c.if-not-read.true)) c.put_bytes.ensures
+    (not-true c.read_line-read.result.readable c.if-not-read.true) c.put_bytes.ensures
 
 pub slice_bounds-cells-end : goal.slice_bounds-cells-end
 slice_bounds-cells-end c = line_fits _ _ c.read_line-read.ensures
@@ -25,8 +25,8 @@ slice_bounds-cal_bbbv-end c = simp length-take (omega (arith, line_fits _ _ c.re
 
 pub returns-in-Refused : goal.returns-in-Refused
 unfolding bbbv_line
-returns-in-Refused c = answer_written bbbv_text bbbv_of _ _ c.read_line-read.ensures (not-false _ (ap not c.if-not-read.false)) c.cal_bbbv-answer.ensures.value c.in-Refused.is c.put_refused.ensures
+returns-in-Refused c = answer_written bbbv_text bbbv_of _ _ c.read_line-read.ensures (not-false _ c.if-not-read.false) c.cal_bbbv-answer.ensures.value c.in-Refused.is c.put_refused.ensures
 
 pub returns-in-Counted : goal.returns-in-Counted
 unfolding bbbv_line
-returns-in-Counted c = answer_written bbbv_text bbbv_of _ _ c.read_line-read.ensures (not-false _ (ap not c.if-not-read.false)) c.cal_bbbv-answer.ensures.value c.in-Counted.is c.put_number.ensures
+returns-in-Counted c = answer_written bbbv_text bbbv_of _ _ c.read_line-read.ensures (not-false _ c.if-not-read.false) c.cal_bbbv-answer.ensures.value c.in-Counted.is c.put_number.ensures

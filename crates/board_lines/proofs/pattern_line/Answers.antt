@@ -15,7 +15,7 @@ pub returns-then-not-read : goal.returns-then-not-read
 unfolding pattern_line
 returns-then-not-read c =
     unreadable_written _ c.read_line-read.result c.read_line-read.ensures (λ l. pattern_text (pattern_of l))
-    (not-true c.read_line-read.result.readable (ap not c.if-not-read.true)) c.put_bytes.ensures
+    (not-true c.read_line-read.result.readable c.if-not-read.true) c.put_bytes.ensures
 
 pub slice_bounds-cells-end : goal.slice_bounds-cells-end
 slice_bounds-cells-end c = line_fits _ _ c.read_line-read.ensures
@@ -25,12 +25,12 @@ slice_bounds-unsolvable_structure-end c = simp length-take (omega (arith, line_f
 
 pub returns-in-Refused : goal.returns-in-Refused
 unfolding pattern_line
-returns-in-Refused c = answer_written pattern_text pattern_of _ _ c.read_line-read.ensures (not-false _ (ap not c.if-not-read.false)) c.unsolvable_structure-answer.ensures c.in-Refused.is c.put_refused.ensures
+returns-in-Refused c = answer_written pattern_text pattern_of _ _ c.read_line-read.ensures (not-false _ c.if-not-read.false) c.unsolvable_structure-answer.ensures c.in-Refused.is c.put_refused.ensures
 
 pub returns-in-NotFound : goal.returns-in-NotFound
 unfolding pattern_line
-returns-in-NotFound c = answer_written pattern_text pattern_of _ _ c.read_line-read.ensures (not-false _ (ap not c.if-not-read.false)) c.unsolvable_structure-answer.ensures c.in-NotFound.is c.put_bytes-in-NotFound.ensures
+returns-in-NotFound c = answer_written pattern_text pattern_of _ _ c.read_line-read.ensures (not-false _ c.if-not-read.false) c.unsolvable_structure-answer.ensures c.in-NotFound.is c.put_bytes-in-NotFound.ensures
 
 pub returns-in-Found : goal.returns-in-Found
 unfolding pattern_line
-returns-in-Found c = answer_written pattern_text pattern_of _ _ c.read_line-read.ensures (not-false _ (ap not c.if-not-read.false)) c.unsolvable_structure-answer.ensures c.in-Found.is c.put_bytes-in-Found.ensures
+returns-in-Found c = answer_written pattern_text pattern_of _ _ c.read_line-read.ensures (not-false _ c.if-not-read.false) c.unsolvable_structure-answer.ensures c.in-Found.is c.put_bytes-in-Found.ensures

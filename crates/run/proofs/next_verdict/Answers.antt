@@ -18,7 +18,7 @@ input c = c.args.input.now
 
 -- the record is whole, and stands inside the input
 whole : (c : After-record_length-end)
-    → let fields = c.mark-1.given.0 in record_of (input c) ≡ Whole c.in-Whole.mark c.in-Whole.rows c.in-Whole.columns c.in-Whole.row c.in-Whole.column
+    → record_of (input c) ≡ Whole c.in-Whole.mark c.in-Whole.rows c.in-Whole.columns c.in-Whole.row c.in-Whole.column
 whole c = sym c.read_record.ensures ∙ c.in-Whole.is
 
 head : (c : After-record_length-end) → 6 ≤ c.record_length-end.result
@@ -29,6 +29,12 @@ inside c = omega (arith, c.record_length-end.ensures.value, whole_inside _ _ _ _
 
 pub slice_bounds-board_verdict-count : goal.slice_bounds-board_verdict-count
 slice_bounds-board_verdict-count c = head c
+
+pub slice_bounds-board_verdict-start : goal.slice_bounds-board_verdict-start
+slice_bounds-board_verdict-start c = head c
+
+pub slice_bounds-board_verdict-end : goal.slice_bounds-board_verdict-end
+slice_bounds-board_verdict-end c = inside c
 
 pub returns-in-End : goal.returns-in-End
 returns-in-End c = next_end _ _ (sym c.read_record.ensures ∙ c.in-End.is) c.next_after_end.ensures

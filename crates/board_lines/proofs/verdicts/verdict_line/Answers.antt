@@ -39,7 +39,7 @@ rounds_in_place c = in_place _ (fits (goal.at.After-verdict_by_mark-verdict c).A
 
 pub returns-then-not-board : goal.returns-then-not-board
 returns-then-not-board c =
-    verdict_unreadable _ _ c.read_start_line-read.result c.read_start_line-read.ensures (not-true (board (goal.at.returns-then-not-board c).After-read_start_line-read).readable (ap not c.if-not-board.true))
+    verdict_unreadable _ _ c.read_start_line-read.result c.read_start_line-read.ensures (not-true (board (goal.at.returns-then-not-board c).After-read_start_line-read).readable c.if-not-board.true)
     c.put_bytes.ensures
 
 pub slice_bounds-cells-end : goal.slice_bounds-cells-end
@@ -74,6 +74,6 @@ slice_bounds-put_judged-end-2 c = (rounds_in_place (goal.at.slice_bounds-put_jud
 
 pub returns : goal.returns
 returns c =
-    verdict_line_written _ _ c.read_start_line-read.result c.read_start_line-read.ensures (not-false (board (goal.at.returns c).After-read_start_line-read).readable (ap not c.if-not-board.false))
+    verdict_line_written _ _ c.read_start_line-read.result c.read_start_line-read.ensures (not-false (board (goal.at.returns c).After-read_start_line-read).readable c.if-not-board.false)
     (verdict_seen c.verdict_by_mark-verdict.result (shown (goal.at.returns c).After-verdict_by_mark-verdict) (opened_in (goal.at.returns c).After-verdict_by_mark-verdict)) (c.verdict_by_mark-verdict.ensures ∙ lent_zeros c.args.mark c.read_start_line-read.result (fits (goal.at.returns c).After-read_start_line-read).1)
     (rw ((picture_in_place (goal.at.returns c).After-verdict_by_mark-verdict).front, (rounds_in_place (goal.at.returns c).After-verdict_by_mark-verdict).front) at c.put_judged.ensures)
