@@ -61,3 +61,11 @@ returns-else-cell-end c = let missing = zero_missing _ (inside (goal.at.returns-
 
 pub returns-else-is_open : goal.returns-else-is_open
 returns-else-is_open c = let other = other_start _ (sym c.is_open.ensures ∙ c.if-is_open.false) in record { value = counts_unchanged _ (end_is (goal.at.returns-else-is_open c).After-record_length-end) other; stored_after = sym (unchanged_is _ other) }
+
+pub slice_bounds-first_zero-start : goal.slice_bounds-first_zero-start
+slice_bounds-first_zero-start c = omega (arith, length_six _ (end_is (goal.at.slice_bounds-first_zero-start c).After-record_length-end))
+
+pub slice_bounds-first_zero-end : goal.slice_bounds-first_zero-end
+slice_bounds-first_zero-end c =
+    let m = (goal.at.slice_bounds-first_zero-end c).After-record_length-end in
+    omega (arith, end_is m, inside m)
