@@ -3,3 +3,5 @@ pub mod Opened
 pub mod ConnectedZeros
 pub mod Flooded
 pub mod OnBoard
+-- a flood that opens the closed neighbours alone
+pub mod ClosedNeighbours

@@ -1,3 +1,4 @@
 -- The laws of the answers of the calls on a board, as text.
 pub mod AnswerWritten
+pub mod PatternWritten
 pub mod VerdictWritten
