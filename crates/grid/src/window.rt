@@ -1,7 +1,7 @@
 // The neighbour window: which cells touch a cell. Whatever walks over neighbours goes through these functions. On a board without an edge (`edgeless`) the first
 // and the last row touch, and the first and the last column: a window that wraps begins at the last line and runs past the size, and each line of it is folded
 // back to the line that it is. On a board with an edge nothing is folded.
-ghost use Rattle.std.specs.Prelude.{◌≡◌, true, ◌+◌, ◌*◌, ◌≤◌, ◌<◌, eqb};
+ghost use Rattle.std.specs.Prelude.{◌≡◌, true, ◌+◌, ◌*◌, ◌≤◌, ◌<◌, eqb, take};
 ghost use Rattle.lists.specs.Lists.{any, count, keep};
 ghost use Rattle.grid.specs.Cells.{cell_of};
 ghost use Rattle.grid.specs.Window.{low_at, high_at, folded, is_inner, eight_around, neighbours, listed, Sized, Board, On, Around};
@@ -23,6 +23,16 @@ pub struct Window {
 pub struct UpToEight {
     pub cells: [u16; 8],
     pub len: usize,
+}
+
+impl UpToEight {
+    // The cells alone, as a slice.
+    pub fn as_slice(&self) -> &[u16]
+        requires { self.now.len ≤ 8 }
+        ensures { result.now ≡ take self.now.len self.now.cells }
+    {
+        &self.cells[..self.len]
+    }
 }
 
 // The first line of the window around i, of `size` of them.
