@@ -5,10 +5,10 @@ use Prim.Native.Nat.{ℕ, ◌+◌, ◌*◌, ◌≤◌, ◌<◌}
 use mathlib.Core.Path.{◌≡◌, ◌∙◌}
 use mathlib.Core.Bool.{Bool, true}
 use mathlib.Core.List.{List, [], ◌∷◌}
-use lib.ListN.{length, get_or, drop}
+use lib.ListN.{length, get_or, drop, take}
 use Rattle.lists.specs.Lists.{has}
 use Rattle.lists.proofs.Members.{get_d_has}
-use Rattle.lists.proofs.Arrays.{pad_read, drop_more, drop_none}
+use Rattle.lists.proofs.Arrays.{pad_read, pad_take, drop_more, drop_none}
 use Rattle.grid.specs.declared.window.UpToEight.{UpToEight}
 use Rattle.grid.specs.Window.{neighbours, listed, On}
 use Rattle.grid.proofs.Neighbours.{neighbours_on, neighbours_few}
@@ -28,6 +28,10 @@ module _ (near : UpToEight) (l : List ℕ) (is : near ≡ listed l) where
     pub listed_more : drop t l ≡ x ∷ drop (t + 1) l
     listed_more = rw same (drop_more l t 0 inside)
 
+  -- as a slice it is the list
+  pub listed_items : take near.len near.cells ≡ l
+  listed_items = rw is (pad_take 8 0 l)
+
   pub listed_none : (t : ℕ) → near.len ≤ t → drop t l ≡ []
   listed_none t h = drop_none l t (rw is at h)
 
@@ -46,6 +50,15 @@ module _ (edgeless : Bool) (rows columns row column : ℕ) (near : UpToEight) (o
 
     pub near_more : drop t cells ≡ x ∷ drop (t + 1) cells
     near_more = listed_more near cells is t x before at
+
+  pub near_items : take near.len near.cells ≡ cells
+  near_items = listed_items near cells is
+
+  -- an element of the slice is on the board
+  pub near_item_on : (items : List ℕ) (t x : ℕ) → items ≡ take near.len near.cells → t < length items → x ≡ get_or items t 0 → x < rows * columns
+  near_item_on items t x e before at =
+      let same : items ≡ cells = e ∙ near_items in
+      neighbours_on edgeless rows columns (row * columns + column) x (rw (at, same) (get_d_has cells t 0 (rw same at before)))
 
   pub near_none : (t : ℕ) → near.len ≤ t → drop t cells ≡ []
   near_none = listed_none near cells is

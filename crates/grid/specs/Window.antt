@@ -2,6 +2,7 @@
 -- every other definition takes the neighbours of a cell as a function `near` from a cell's number to a list. Assumes nothing.
 use Rattle.std.specs.Prelude.{◌≡◌, Bool, false, cond, ◌&&◌, List, [], ◌∷◌, ◌++◌, map, ℕ, ◌+◌, ◌-◌, ◌*◌, ◌/◌, ◌%◌, ◌≤◌, ◌<◌, min, leb, ltb, eqb, length}
 use Rattle.lists.specs.Lists.{range, without, pad}
+use Rattle.grid.specs.declared.window.Size.{Size}
 use Rattle.grid.specs.declared.window.UpToEight.{UpToEight}
 use Rattle.grid.specs.declared.window.Window.{Window}
 
@@ -30,6 +31,13 @@ flat = false
 -- the cells that touch a cell, from the row above to the row below and from left to right; on a board with an edge that is the reading order
 unfoldable pub neighbours : Bool → ℕ → ℕ → ℕ → List ℕ
 neighbours edgeless rows columns c = without c (block columns (around edgeless rows (c / columns)) (around edgeless columns (c % columns)))
+
+-- the same of a board by its size; and the size of a board with an edge
+abbrev pub neighbours_on : Size → ℕ → List ℕ
+neighbours_on size = neighbours size.edgeless size.rows size.columns
+
+abbrev pub flat_size : ℕ → ℕ → Size
+flat_size rows columns = record { edgeless = flat; rows = rows; columns = columns }
 
 -- ---- how the code walks the window
 

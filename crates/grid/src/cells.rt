@@ -7,8 +7,8 @@ pub fn count_showing(cells: &[u8], value: u8) -> usize
     ensures { result ≡ count (λ v. eqb v value) cells.now }
 {
     let mut found = 0;
-    for c in 0..cells.len() {
-        if cells[c] == value {
+    for &cell in cells {
+        if cell == value {
             found += 1;
         }
     }

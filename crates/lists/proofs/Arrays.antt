@@ -77,5 +77,9 @@ module _ {A : Type 0} where
   pub drop_more : (l : List A) (t : ℕ) (d : A) → t < length l → drop t l ≡ get_or l t d ∷ drop (t + 1) l
   drop_more l t d h = drop-cons l t d h ∙ rw add-one
 
+  -- the same with the element by its name
+  pub drop_next : (l : List A) (t : ℕ) (d x : A) → t < length l → x ≡ get_or l t d → drop t l ≡ x ∷ drop (t + 1) l
+  drop_next l t d x h e = drop_more l t d h ∙ ap (λ (y : A). y ∷ drop (t + 1) l) (sym e)
+
   pub drop_none : (l : List A) (t : ℕ) → length l ≤ t → drop t l ≡ []
   drop_none l t h = drop_of_length-le l h

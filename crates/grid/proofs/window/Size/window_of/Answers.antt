@@ -2,12 +2,12 @@
 -- Assumes nothing.
 use native.Mathlib.Omega.{arith}
 use Rattle.grid.proofs.Neighbours.{high_bound}
-use Rattle.grid.proofs.window.window_of.Goals as goal
+use Rattle.grid.proofs.window.Size.window_of.Goals as goal
 
 pub returns : goal.returns
 returns c =
-    let at_rows = high_bound c.args.edgeless c.args.rows c.args.row c.requires.on.in_rows in
-    let at_columns = high_bound c.args.edgeless c.args.columns c.args.column c.requires.on.in_columns in
+    let at_rows = high_bound c.args.self.edgeless c.args.self.rows c.args.row c.requires.on.in_rows in
+    let at_columns = high_bound c.args.self.edgeless c.args.self.columns c.args.column c.requires.on.in_columns in
     record {
       is = cc;
       below = omega (arith, at_rows.0);

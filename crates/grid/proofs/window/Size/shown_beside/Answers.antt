@@ -8,13 +8,13 @@ use borrow.Author.Rules.{rules}
 use borrow.Author.Tests.{eq-eqb, ne_eqb}
 use Rattle.grid.specs.Window.{folded}
 use Rattle.grid.proofs.Walk.{enter, leave, done, pass_other, pass_own, walk_neighbours}
-use Rattle.grid.proofs.window.shown_beside.Goals as goal
-use Rattle.grid.proofs.window.shown_beside.Goals.{After-cell_number-cell, else-cell-own, then-cell-own+else-cells-cell}
+use Rattle.grid.proofs.window.Size.shown_beside.Goals as goal
+use Rattle.grid.proofs.window.Size.shown_beside.Goals.{After-cell_number-cell, else-cell-own, then-cell-own+else-cells-cell}
 
 pub outer-init : goal.outer-init
 outer-init c =
     let on = c.requires.on in
-    (refl, rw (walk_neighbours c.args.edgeless _ _ _ _ _ _ on c.window_of-w.ensures.is c.cell_number-own.ensures.0))
+    (refl, rw (walk_neighbours c.args.self.edgeless _ _ _ _ _ _ on c.window_of-w.ensures.is c.cell_number-own.ensures.0))
 
 pub loop-n-init : goal.loop-n-init
 loop-n-init c = let h = c.outer-test.true in (search rules, rw enter at c.outer.invariant.1)
@@ -28,9 +28,9 @@ fold-requires c = omega (arith, c.loop-n-test.true, c.window_of-w.ensures.beside
 
 -- the next cell, by its folded row and column
 here : (c : After-cell_number-cell)
-    → c.cell_number-cell.result ≡ folded c.args.rows c.outer.m
-    * c.args.columns
-    + folded c.args.columns c.loop-n.n
+    → c.cell_number-cell.result ≡ folded c.args.self.rows c.outer.m
+    * c.args.self.columns
+    + folded c.args.self.columns c.loop-n.n
 here c = c.cell_number-cell.ensures.0 ∙ rw (c.fold-near_row.ensures.0, c.fold.ensures.0)
 
 pub loop-n-preserved : goal.loop-n-preserved

@@ -8,13 +8,13 @@ use Rattle.grid.specs.Window.{folded}
 use Rattle.grid.proofs.Neighbours.{neighbours_few}
 use Rattle.grid.proofs.Walk.{enter, leave, done, pass_other, pass_own, walk_neighbours}
 use Rattle.lists.proofs.Collected.{collected_none, collected_room, collected_push, collected_all}
-use Rattle.grid.proofs.window.walk_neighbours.Goals as goal
-use Rattle.grid.proofs.window.walk_neighbours.Goals.{After-cell_number-c, Then-c-own, else-c-own, then-c-own}
+use Rattle.grid.proofs.window.Size.walk_neighbours.Goals as goal
+use Rattle.grid.proofs.window.Size.walk_neighbours.Goals.{After-cell_number-c, Then-c-own, else-c-own, then-c-own}
 
 pub loop-m-init : goal.loop-m-init
 loop-m-init c =
     let on = c.requires.on in
-    rw (walk_neighbours c.args.edgeless _ _ _ _ _ _ on c.window_of-w.ensures.is c.cell_number-own.ensures.0) (collected_none 8 _)
+    rw (walk_neighbours c.args.self.edgeless _ _ _ _ _ _ on c.window_of-w.ensures.is c.cell_number-own.ensures.0) (rw c.empty-near.ensures (collected_none 8 _))
 
 pub loop-n-init : goal.loop-n-init
 loop-n-init c = let h = c.loop-m-test.true in rw enter at c.loop-m.invariant
@@ -28,13 +28,13 @@ fold-requires c = omega (arith, c.loop-n-test.true, c.window_of-w.ensures.beside
 
 -- the next cell, by its folded row and column
 here : (c : After-cell_number-c)
-    → c.cell_number-c.result ≡ folded c.args.rows c.loop-m.m
-    * c.args.columns
-    + folded c.args.columns c.loop-n.n
+    → c.cell_number-c.result ≡ folded c.args.self.rows c.loop-m.m
+    * c.args.self.columns
+    + folded c.args.self.columns c.loop-n.n
 here c = c.cell_number-c.ensures.0 ∙ rw (c.fold-near_row.ensures.0, c.fold.ensures.0)
 
 -- there is room for the next cell
-room : (c : Then-c-own) → c.loop-n.len < 8
+room : (c : Then-c-own) → c.loop-n.near.len < 8
 room c =
     let before = c.loop-n-test.true in
     let at = here (goal.at.Then-c-own c).After-cell_number-c in
@@ -43,14 +43,8 @@ room c =
     (rw (pass_other c.cell_number-c.result) at c.loop-n.invariant)
     (neighbours_few _ _ _ _)
 
-pub offset_bounds-cells-len : goal.offset_bounds-cells-len
-offset_bounds-cells-len c = omega (arith, room c)
-
-pub bounds-cells-len : goal.bounds-cells-len
-bounds-cells-len c = room c
-
-pub overflow_add-len : goal.overflow_add-len
-overflow_add-len c = omega (arith, room c)
+pub push-requires : goal.push-requires
+push-requires c = room (goal.at.push-requires c).Then-c-own
 
 pub loop-n-preserved : goal.loop-n-preserved
 loop-n-preserved c =
@@ -59,8 +53,8 @@ loop-n-preserved c =
     let few = neighbours_few _ _ _ _ in
     let inv = c.loop-n.invariant in
     elim c.if-c-own.branch [
-      | then-c-own w ↦ let other = w.if-c-own.true in rw (w.cells-is, w.len-is) (collected_push (rw (pass_other c.cell_number-c.result) at inv) few)
-      | else-c-own w ↦ let own = w.if-c-own.false in rw (w.cells-is, w.len-is) (rw (pass_own c.cell_number-c.result) at inv)
+      | then-c-own w ↦ let other = w.if-c-own.true in rw (w.near-is, w.push.ensures) (collected_push (rw (pass_other c.cell_number-c.result) at inv) few)
+      | else-c-own w ↦ let own = w.if-c-own.false in rw w.near-is (rw (pass_own c.cell_number-c.result) at inv)
     ]
 
 pub loop-m-preserved : goal.loop-m-preserved
