@@ -8,7 +8,8 @@ use Prim.Native.Nat.{ℕ, ◌+◌, ◌<◌}
 use native.Mathlib.Omega.{arith}
 use lib.Dec.{eqb, ltb}
 use lib.ListN.{length, get_or, set, take, drop, replicate, length-replicate}
-use lib.Seq.{get_or-set_same, get_or-set_other}
+use native.Mathlib.Numerals.{add-one}
+use lib.Seq.{get_or-set_same, get_or-set_other, take-suc}
 use borrow.Author.Tests.{eqb-true, eqb-false, ltb-true}
 use Rattle.lists.specs.Lists.{bit, any, has, meets}
 use Rattle.lists.proofs.Tests.{Decided, decided, bit_is_one}
@@ -44,6 +45,11 @@ marks_push marks cells c u h = record { at = λ d. go d (decided (eqb d c)) }
 -- nothing is marked
 pub marks_none : (n : ℕ) → Marks (replicate n 0) []
 marks_none n = record { at = λ c. replicate_all (λ i x. x ≡ 0) n 0 0 (λ i u. refl) (λ i u. refl) c }
+
+-- the next cell of a list
+pub marks_next : (marks cells : List ℕ) (k c : ℕ) → k < length cells → c ≡ get_or cells k 0 → c < length marks → Marks marks (take k cells)
+    → Marks (set marks c 1) (take (k + 1) cells)
+marks_next marks cells k c h at u m = rw (add-one, take-suc cells k 0 h, ← at) (marks_push marks (take k cells) c u m)
 
 -- the first mark
 pub marks_first : (n c : ℕ) → c < n → Marks (set (replicate n 0) c 1) (c ∷ [])

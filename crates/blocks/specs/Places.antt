@@ -55,6 +55,10 @@ bounds_at cell_ends equation_ends b = record {
   end_equation = get_or equation_ends b 0;
 }
 
+-- the same by the ends of a set
+abbrev pub bounds_of : BlockSet → ℕ → Bounds
+bounds_of set b = bounds_at set.cell_ends set.equation_ends b
+
 unfoldable pub cells_from : List ℕ → ℕ → ℕ → List ℕ
 cells_from cells first end = map (λ (i : ℕ). get_or cells i 0) (range first (end - first))
 
@@ -66,6 +70,13 @@ block_from cells slots rests bounds = record {
   cells = cells_from cells bounds.first_cell bounds.end_cell;
   equations = equations_from slots rests bounds.first_equation bounds.end_equation;
 }
+
+-- the same of a set's arrays: a block that stands in it, and the block
+abbrev pub Stands : BlockSet → Bounds → Type 0
+Stands set bounds = Arrays set.cells set.slots set.rests bounds
+
+abbrev pub block_between : BlockSet → Bounds → Block
+block_between set bounds = block_from set.cells set.slots set.rests bounds
 
 -- ---- blocks behind those of a set
 

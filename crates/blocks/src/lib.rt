@@ -7,7 +7,7 @@ ghost use Rattle.std.proofs.lemmas.List.Edits.{sets};
 ghost use Rattle.lists.specs.Lists.{any, pad};
 ghost use Rattle.grid.specs.Window.{listed};
 ghost use Rattle.blocks.specs.BlockSets.{block_set, slot_cells, begin_at};
-ghost use Rattle.blocks.specs.Places.{marked, Marks, cells_in, OnBoard, bounds_at};
+ghost use Rattle.blocks.specs.Places.{marked, Marks, cells_in, OnBoard, bounds_at, bounds_of};
 
 use grid::window::{UpToEight, wide};
 
@@ -37,7 +37,7 @@ pub fn empty_set() -> BlockSet
     BlockSet {
         cells: [0; 1024],
         cell_ends: [0; 1024],
-        slots: [65535; 8192],
+        slots: [NO_CELL; 8192],
         rests: [0; 1024],
         equation_ends: [0; 1024],
         blocks: 0,
@@ -110,16 +110,24 @@ pub fn bounds_at(cell_ends: &[u16; 1024], equation_ends: &[u16; 1024], b: usize)
     }
 }
 
+impl BlockSet {
+    // Where block b of the set begins and ends.
+    pub fn bounds_at(&self, b: usize) -> Bounds
+        requires { b < 1024 }
+        ensures { result ≡ bounds_of self.now b }
+    {
+        bounds_at(&self.cell_ends, &self.equation_ends, b)
+    }
+}
+
 // 1 at each cell of a list, 0 elsewhere.
 pub fn marks_of(list: UpToEight) -> [u8; 1024]
     requires { OnBoard list }
     ensures { Marks result (cells_in list) }
 {
-    let cells = list.cells;
-    let len = list.len;
     let mut marks = [0u8; 1024];
-    for k in 0..len {
-        marks[wide(cells[k])] = 1;
+    for &cell in list.as_slice() {
+        marks[wide(cell)] = 1;
     }
     marks
 }
@@ -129,10 +137,8 @@ pub fn meets_marks(marks: &[u8; 1024], list: UpToEight) -> bool
     requires { OnBoard list }
     ensures { result ≡ any (marked marks.now) (cells_in list) }
 {
-    let cells = list.cells;
-    let len = list.len;
-    for k in 0..len {
-        if marks[wide(cells[k])] == 1 {
+    for &cell in list.as_slice() {
+        if marks[wide(cell)] == 1 {
             return true;
         }
     }

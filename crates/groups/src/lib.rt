@@ -8,11 +8,11 @@ ghost use Rattle.std.proofs.lemmas.List.Edits.{sets};
 ghost use Rattle.lists.specs.Lists.{any, all, count, nodup, first_place, joined, pad};
 ghost use Rattle.blocks.specs.Blocks.{BlockEquation};
 ghost use Rattle.blocks.specs.BlockSets.{slot_cells};
-ghost use Rattle.blocks.specs.Places.{cells_in, OnBoard, Slots, Cells, Arrays, cells_from, equations_from, block_from};
+ghost use Rattle.blocks.specs.Places.{cells_in, OnBoard, Slots, Cells, Stands, cells_from, equations_from, block_between};
 ghost use Rattle.groups.specs.Grouping.{Combinable, grouped};
 ghost use Rattle.groups.specs.Combining.{ColumnsAre, column_in, column_with, alike_by, GroupsAre};
 
-use blocks::{Bounds, NO_CELL, put_slots, slots_at};
+use blocks::{BlockSet, Bounds, NO_CELL, put_slots, slots_at};
 use grid::window::{UpToEight, wide};
 
 // A block over its groups. Slots past the counts are 0, or 65535 where a place could stand.
@@ -179,25 +179,20 @@ fn fill_needs(
 }
 
 // combine, of the block between these bounds.
-pub fn combine(
-    cells: &[u16; 1024],
-    slots: &[u16; 8192],
-    rests: &[u8; 1024],
-    bounds: Bounds,
-) -> Grouped
-    requires arrays { Arrays cells.now slots.now rests.now bounds }
-    requires combinable { Combinable (block_from cells.now slots.now rests.now bounds) }
-    ensures { result ≡ grouped (block_from cells.now slots.now rests.now bounds) }
+pub fn combine(set: &BlockSet, bounds: Bounds) -> Grouped
+    requires arrays { Stands set.now bounds }
+    requires combinable { Combinable (block_between set.now bounds) }
+    ensures { result ≡ grouped (block_between set.now bounds) }
 {
     let first = bounds.first_equation;
     let end = bounds.end_equation;
-    let mut by_cell = [65535u16; 8192];
-    fill_columns(slots, first, end, &mut by_cell);
+    let mut by_cell = [NO_CELL; 8192];
+    fill_columns(&set.slots, first, end, &mut by_cell);
     let mut firsts = [0u16; 1024];
     let mut sizes = [0u8; 1024];
     let mut group_of = [0u16; 1024];
     let groups = fill_groups(
-        cells,
+        &set.cells,
         bounds.first_cell,
         bounds.end_cell,
         &by_cell,
@@ -205,11 +200,11 @@ pub fn combine(
         &mut sizes,
         &mut group_of,
     );
-    let mut columns = [65535u16; 8192];
+    let mut columns = [NO_CELL; 8192];
     copy_columns(&by_cell, &firsts, groups, &mut columns);
     let mut needs = [0u8; 1024];
     let mut rooms = [0u8; 1024];
-    let negative = fill_needs(slots, rests, first, end, &mut needs, &mut rooms);
+    let negative = fill_needs(&set.slots, &set.rests, first, end, &mut needs, &mut rooms);
     Grouped {
         groups,
         equations: end - first,

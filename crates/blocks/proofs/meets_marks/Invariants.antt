@@ -1,9 +1,8 @@
-use Prim.Native.Nat.{◌≤◌}
 use mathlib.Core.Path.{◌≡◌}
-use lib.ListN.{take, drop}
+use lib.ListN.{drop}
 use Rattle.lists.specs.Lists.{any}
 use Rattle.blocks.specs.Places.{marked}
 use Rattle.blocks.proofs.meets_marks.Given as goal
 
-abbrev pub invariant-loop-k : goal.invariant-loop-k
-invariant-loop-k l = (l.k ≤ l.len) × (any (marked l.marks) (drop l.k (take l.len l.cells)) ≡ any (marked l.marks) (take l.len l.cells))
+abbrev pub invariant-loop-cell : goal.invariant-loop-cell
+invariant-loop-cell l = any (marked l.marks) (drop l.cell-index l.cell-items) ≡ any (marked l.marks) l.cell-items
