@@ -16,6 +16,7 @@ pub mod ListLaws
 pub mod OrderedGroups
 pub mod Lowering
 pub mod Branches
+pub mod FirstValues
 pub mod HeldValues
 pub mod TakenValues
 pub mod KeptValues

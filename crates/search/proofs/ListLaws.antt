@@ -1,15 +1,17 @@
 -- General laws of lists that the search rests on: a test of all elements one by one, a list without repetition cut, a value set in two lists of one length, and
 -- zeros. Assumes nothing.
 use mathlib.Core.Path.{◌≡◌, refl, sym, ap, ◌∙◌}
-use mathlib.Core.Bool.{Bool, true, false}
+use mathlib.Core.Bool.{Bool, true, false, and-true}
 use mathlib.Core.List.{List, [], ◌∷◌}
-use Prim.Native.Nat.{ℕ, zero, suc, ◌+◌, ◌-◌, ◌≤◌, ◌<◌}
+use Prim.Native.Nat.{ℕ, zero, suc, ◌+◌, ◌≤◌, ◌<◌}
 use native.Mathlib.Decide.{dec_lt}
 use native.Mathlib.Omega.{arith}
 use lib.Dec.{eqb}
-use lib.ListN.{length, get_or, drop, set, length-set, get_or-eq_default}
+use lib.ListN.{length, get_or, take, drop, set, length-set, get_or-eq_default}
 use lib.Seq.{get_or-drop, get_or-set_same}
+use Rattle.std.proofs.lemmas.List.{take-append-drop}
 use Rattle.lists.specs.Lists.{all, nodup}
+use Rattle.lists.proofs.All.{all_append}
 use Rattle.lists.proofs.Members.{nodup_tail}
 
 -- ---- a loop that stops at the first element that fails a test
@@ -29,6 +31,11 @@ zeros_pass (x ∷ l) h = rw (h zero) (zeros_pass l (λ i. h (suc i)))
 
 pub zeros_behind : (l : List ℕ) (k : ℕ) → ((i : ℕ) → k ≤ i → get_or l i 0 ≡ 0) → all (λ n. eqb n 0) (drop k l) ≡ true
 zeros_behind l k h = zeros_pass (drop k l) (λ i. get_or-drop k l i 0 ∙ h (k + i) (omega arith))
+
+-- so the numbers before it decide whether all are zeros
+pub zeros_before : (l : List ℕ) (k : ℕ) → ((i : ℕ) → k ≤ i → get_or l i 0 ≡ 0) → all (λ n. eqb n 0) (take k l) ≡ all (λ n. eqb n 0) l
+zeros_before l k h =
+    sym (ap (all (λ n. eqb n 0)) (sym (take-append-drop k l)) ∙ all_append (λ n. eqb n 0) (take k l) (drop k l) ∙ rw (zeros_behind l k h) (and-true (all (λ n. eqb n 0) (take k l))))
 
 -- ---- no number twice
 

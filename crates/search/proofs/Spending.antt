@@ -1,6 +1,6 @@
 -- What a search that spends an allowance leaves: the allowance less the rows of its tree, values in which only the tree's groups changed and, where nothing is
 -- left, those of a row. Each step of the search goes from what its calls leave to what it leaves itself. Rests on the steps of the tree. Assumes nothing.
-use mathlib.Core.Path.{◌≡◌, refl}
+use mathlib.Core.Path.{◌≡◌, refl, ◌∙◌}
 use mathlib.Core.Bool.{true, false}
 use mathlib.Core.List.Memᴰ
 use mathlib.Core.List.{List, [], ◌∷◌, ◌++◌, map, Memᴰ}
@@ -12,10 +12,12 @@ use Rattle.lists.specs.Lists.{all, has}
 use Rattle.grid.specs.declared.window.UpToEight.{UpToEight}
 use Rattle.blocks.specs.BlockSets.{slot_cells}
 use Rattle.search.specs.Trees.{lowered, possible}
-use Rattle.search.specs.Searching.{unset, tree_at, tree_from, Kept}
+use Rattle.search.specs.declared.Unmet.{Unmet}
+use Rattle.search.specs.Searching.{raised, unset, tree_at, tree_from, Kept}
 use Rattle.search.proofs.OrderedGroups.{Group, unset_none, unset_more, group_once, group_place}
-use Rattle.search.proofs.Branches.{tree_leaf, tree_values, from_none, from_impossible}
-use Rattle.search.proofs.TakenValues.{places, Taken, tree_more}
+use Rattle.search.proofs.Branches.{tree_leaf, tree_values}
+use Rattle.search.proofs.FirstValues.{values_none, values_rest, values_impossible, values_possible}
+use Rattle.search.proofs.TakenValues.{places, Taken, taken_column, back}
 use Rattle.search.proofs.KeptValues.{kept_same, kept_both, kept_set, kept_first}
 
 -- the values of some groups
@@ -83,30 +85,51 @@ module _ {order : List ℕ} {groups equations : ℕ} {sizes columns : List ℕ} 
       → Spent (tree_at order groups sizes columns at needs rooms) (unset order groups at) values after left r
   spent_values to e s = rw (tree_values here needs rooms to e) s
 
-  module _ (v to : ℕ) where
-    pub spent_past : (values : List ℕ) (left : ℕ) → to < v → 0 < left → Spent (tree_from order groups sizes columns at v (suc to - v) needs rooms) (unset order groups at) values values left left
-    spent_past values left u some = rw (from_none here needs rooms v to u) (spent_nothing (unset order groups at) values left some)
+-- ---- the loop over the values of a group
 
-    pub spent_impossible : {values after : List ℕ} {left r : ℕ} → v ≤ to → (es : List ℕ) → es ≡ slot_cells columns g → possible (get_or sizes g 0) es needs rooms v ≡ false
-        → Spent (tree_from order groups sizes columns at (v + 1) (suc to - (v + 1)) needs rooms) (unset order groups at) values after left r
-        → Spent (tree_from order groups sizes columns at v (suc to - v) needs rooms) (unset order groups at) values after left r
-    spent_impossible within es column e s = rw (from_impossible here needs rooms v to within es column e) s
+-- the values from `low` up to v, v left out, are tried, and what is unmet is as it was before them
+pub record Tried (order : List ℕ) (groups : ℕ) (sizes columns : List ℕ) (at low v : ℕ) (before unmet : Unmet) (values after : List ℕ) (left rest : ℕ) : Type 0 where
+  pub same : unmet ≡ before
+  pub spent : Spent (tree_from order groups sizes columns at low (v - low) before.needs before.rooms) (unset order groups at) values after left rest
 
--- ---- a value that is possible
+module _ {order : List ℕ} {groups equations : ℕ} {sizes columns : List ℕ} {at g : ℕ} (here : Group order groups equations sizes columns at g) (low : ℕ) where
+  -- none yet
+  pub tried_none : (unmet : Unmet) (values : List ℕ) (left : ℕ) → 0 < left → Tried order groups sizes columns at low low unmet unmet values values left left
+  tried_none unmet values left some =
+      record { same = refl; spent = rw (values_none here unmet.needs unmet.rooms low) (spent_nothing (unset order groups at) values left some) }
 
-module _ {order : List ℕ} {groups equations : ℕ} {sizes columns : List ℕ} {at g : ℕ} {needs rooms : List ℕ} {v to : ℕ} {list : UpToEight}
-    (k : Taken order groups equations sizes columns at g needs rooms v to list) (values : List ℕ) (long : length values ≡ 1024)
-    {middle : List ℕ} {left rest : ℕ} {needs_below rooms_below : List ℕ} (low_needs : needs_below ≡ lowered v (places list) needs) (low_rooms : rooms_below ≡ lowered (get_or sizes g 0) (places list) rooms)
-    (s : Spent (tree_at order groups sizes columns (at + 1) needs_below rooms_below) (unset order groups (at + 1)) (set values g v) middle left rest) where
-  first : Spent (map (λ (row : List ℕ). v ∷ row) (tree_at order groups sizes columns (at + 1) needs_below rooms_below)) (unset order groups at) values middle left rest
-  first = rw (unset_more k.here) (spent_value values g v (group_once k.here) (omega (arith, group_place k.here)) s)
+  module _ {v : ℕ} {before unmet : Unmet} {values after : List ℕ} {left rest : ℕ} (s : Tried order groups sizes columns at low v before unmet values after left rest) where
+    -- one that is not possible
+    pub tried_impossible : low ≤ v → (es : List ℕ) → es ≡ slot_cells columns g → possible (get_or sizes g 0) es unmet.needs unmet.rooms v ≡ false
+        → Tried order groups sizes columns at low (v + 1) before unmet values after left rest
+    tried_impossible from es column e =
+        record { same = s.same; spent = rw (values_impossible here before.needs before.rooms low v from es column (rw s.same at e)) s.spent }
 
-  -- its rows use the allowance up
-  pub spent_stop : rest ≡ 0 → Spent (tree_from order groups sizes columns at v (suc to - v) needs rooms) (unset order groups at) values middle left 0
-  spent_stop z = rw (tree_more k low_needs low_rooms) (spent_all (tree_from order groups sizes columns at (v + 1) (suc to - (v + 1)) needs rooms) first z)
+    -- all, from which no other follows
+    pub tried_all : (to : ℕ) → to < v → v - low ≤ suc to - low → Spent (tree_from order groups sizes columns at low (suc to - low) before.needs before.rooms) (unset order groups at) values after left rest
+    tried_all to past inside = let whole : suc to - low ≡ v - low = omega arith in rw whole s.spent
 
-  -- or the next values follow
-  pub spent_on : {needs_back rooms_back after : List ℕ} {r : ℕ} → needs_back ≡ needs → rooms_back ≡ rooms
-      → Spent (tree_from order groups sizes columns at (v + 1) (suc to - (v + 1)) needs_back rooms_back) (unset order groups at) middle after rest r
-      → Spent (tree_from order groups sizes columns at v (suc to - v) needs rooms) (unset order groups at) values after left r
-  spent_on n m w = rw (tree_more k low_needs low_rooms) (spent_more first (rw (n, m) at w))
+    -- those after which nothing is left
+    pub tried_enough : (to : ℕ) → low ≤ v → v ≤ suc to → rest ≡ 0 → Spent (tree_from order groups sizes columns at low (suc to - low) before.needs before.rooms) (unset order groups at) values after left 0
+    tried_enough to from within z =
+        rw (values_rest here before.needs before.rooms low v (suc to) from within)
+        (spent_all (tree_from order groups sizes columns at v (suc to - v) before.needs before.rooms) s.spent z)
+
+-- the same of equal values
+pub tried_same : {order : List ℕ} {groups : ℕ} {sizes columns : List ℕ} {at low v : ℕ} {before unmet unmet' : Unmet} {values after after' : List ℕ} {left rest rest' : ℕ} → unmet' ≡ unmet → after' ≡ after → rest' ≡ rest
+    → Tried order groups sizes columns at low v before unmet values after left rest → Tried order groups sizes columns at low v before unmet' values after' left rest'
+tried_same u a r s = rw (u, a, r) s
+
+-- one that is possible, with what the groups behind it spend
+pub tried_possible : {order : List ℕ} {groups equations : ℕ} {sizes columns : List ℕ} {at g low v to : ℕ} {list : UpToEight} {before unmet down same up : Unmet} {values tried after : List ℕ} {left rest r : ℕ}
+    → Taken order groups equations sizes columns at g unmet.needs unmet.rooms v to list → low ≤ v → length tried ≡ 1024 → Tried order groups sizes columns at low v before unmet values tried left rest
+    → down.needs ≡ lowered v (places list) unmet.needs → down.rooms ≡ lowered (get_or sizes g 0) (places list) unmet.rooms → same ≡ down
+    → up.needs ≡ raised v (places list) same.needs → up.rooms ≡ raised (get_or sizes g 0) (places list) same.rooms
+    → Spent (tree_at order groups sizes columns (at + 1) down.needs down.rooms) (unset order groups (at + 1)) (set tried g v) after rest r
+    → Tried order groups sizes columns at low (v + 1) before up values after left r
+tried_possible {order} {groups} {at = at} {g = g} {low = low} {v = v} {list = list} {before = before} {tried = tried} k from long s n m e p q w = record {
+  same = back k n m e p q ∙ s.same;
+  spent =
+      rw (values_possible k.here before.needs before.rooms low v from (places list) (taken_column k) (rw s.same at k.can))
+      (spent_more s.spent (rw (unset_more k.here) (spent_value tried g v (group_once k.here) (omega (arith, group_place k.here, long)) (rw (n, m, s.same) at w))));
+}

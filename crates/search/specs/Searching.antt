@@ -1,9 +1,11 @@
 -- Cited by no public contract. What the functions of the search are told: the groups of an order, their sizes and columns, and the state of the equations, in
 -- arrays. Assumes nothing.
-use Rattle.std.specs.Prelude.{◌≡◌, true, false, List, [], ◌∷◌, ℕ, ◌+◌, ◌≤◌, ◌<◌, ltb, length, get_or, set, take, drop}
+use Rattle.std.specs.Prelude.{◌≡◌, true, false, List, [], ◌∷◌, ℕ, suc, ◌+◌, ◌-◌, ◌≤◌, ◌<◌, ltb, length, get_or, set, take, drop}
 use Rattle.lists.specs.Lists.{all, has, nodup}
 use Rattle.blocks.specs.BlockSets.{slot_cells}
+use Rattle.groups.specs.declared.Grouped.{Grouped}
 use Rattle.search.specs.Trees.{branches, tree}
+use Rattle.search.specs.declared.Unmet.{Unmet}
 
 -- the first groups of the order are the groups, none twice; a group has at most eight cells, and its column has places of equations, none twice
 pub record Ordered (order : List ℕ) (groups equations : ℕ) (sizes columns : List ℕ) : Type 0 where
@@ -54,3 +56,25 @@ placed values (g ∷ gs) (v ∷ row) = placed (set values g v) gs row
 pub record Kept (gs before after : List ℕ) : Type 0 where
   pub whole : length after ≡ length before
   pub others : (g : ℕ) → has gs g ≡ false → get_or after g 0 ≡ get_or before g 0
+
+-- ---- the same of the structs that the functions are given
+
+-- an order of the groups of a block
+abbrev pub OrderOf : Grouped → List ℕ → Type 0
+OrderOf g order = Ordered order g.groups g.equations g.sizes g.columns
+
+-- what its equations need, and how many cells their unset groups have
+abbrev pub StateOf : Grouped → Unmet → Type 0
+StateOf g u = State g.equations u.needs u.rooms
+
+-- the groups unset from a place of the order on
+abbrev pub unset_of : Grouped → List ℕ → ℕ → List ℕ
+unset_of g order at = unset order g.groups at
+
+-- the solutions for them
+abbrev pub tree_of : Grouped → List ℕ → ℕ → Unmet → List (List ℕ)
+tree_of g order at u = tree_at order g.groups g.sizes g.columns at u.needs u.rooms
+
+-- those in which the first of them has from `low` to `high` mines
+abbrev pub tree_of_values : Grouped → List ℕ → ℕ → ℕ → ℕ → Unmet → List (List ℕ)
+tree_of_values g order at low high u = tree_from order g.groups g.sizes g.columns at low (suc high - low) u.needs u.rooms

@@ -1,5 +1,5 @@
-// The search for solutions: the groups of an order are set one after another, each value from 0 to the group's size that its equations can take; the
-// functions call each other, and the number of unset groups falls. `needs` and `rooms` are lowered on the way down and raised again on the way up.
+// The search for solutions: the groups of an order are set one after another, each to every value from 0 to its size that its equations can take; the functions
+// call each other, and the number of unset groups falls. What the equations still need is lowered on the way down and raised again on the way up.
 #![tactic(auto)]
 
 ghost use Rattle.std.specs.Prelude.{◌≡◌, true, ℕ, suc, ◌-◌, ◌≤◌, ◌<◌, leb, eqb, length, get_or, take};
@@ -7,187 +7,144 @@ ghost use mathlib.Core.List.{map, Memᴰ};
 ghost use Rattle.lists.specs.Lists.{all, nodup};
 ghost use Rattle.blocks.specs.Places.{OnBoard};
 ghost use Rattle.search.specs.Trees.{lowered, possible as isPossible};
-ghost use Rattle.search.specs.Searching.{raised, Ordered, State, unset, tree_at, tree_from, Kept};
+ghost use Rattle.search.specs.Searching.{raised, Kept, OrderOf, StateOf, unset_of, tree_of, tree_of_values};
 
 use blocks::slots_at;
 use grid::window::{UpToEight, wide};
+use groups::Grouped;
 
-// Can the equations of a list take v mines in a group of so many cells?
-pub fn possible(list: UpToEight, size: u8, v: u8, needs: &[u8; 1024], rooms: &[u8; 1024]) -> bool
-    requires on_board { OnBoard list }
-    requires size_bound { (size ≤ 8) × (v ≤ 8) × ((e : ℕ) → get_or needs.now e 0 ≤ 8) × ((e : ℕ) → get_or rooms.now e 0 ≤ 8) }
-    ensures { result ≡ isPossible size (take list.len list.cells) needs.now rooms.now v }
-{
-    let places = list.cells;
-    let len = list.len;
-    for k in 0..len {
-        let e = wide(places[k]);
-        if needs[e] < v {
-            return false;
-        }
-        if v + rooms[e] < needs[e] + size {
-            return false;
-        }
-    }
-    true
+// For each equation what it still needs, and how many cells its unset groups have.
+#[derive(Clone, Copy)]
+pub struct Unmet {
+    pub needs: [u8; 1024],
+    pub rooms: [u8; 1024],
 }
 
-// Lowers the numbers at the places of a list, none of which stands twice, by no more than each is.
-pub fn lower(list: UpToEight, v: u8, numbers: &mut [u8; 1024])
-    requires on_board { OnBoard list }
-    requires cells_value { nodup (take list.len list.cells) ≡ true }
-    requires numbers_len { length numbers.old ≡ 1024 }
-    requires cells_value_2 { all (λ e. leb v (get_or numbers.old e 0)) (take list.len list.cells) ≡ true }
-    ensures { numbers.new ≡ lowered v (take list.len list.cells) numbers.old }
-{
-    let places = list.cells;
-    let len = list.len;
-    for k in 0..len {
-        numbers[wide(places[k])] = numbers[wide(places[k])] - v;
+impl Unmet {
+    // Can the equations of a list take v mines in a group of so many cells?
+    pub fn possible(&self, list: UpToEight, size: u8, v: u8) -> bool
+        requires on_board { OnBoard list }
+        requires size_bound { (size ≤ 8) × (v ≤ 8) × ((e : ℕ) → get_or self.now.needs e 0 ≤ 8) × ((e : ℕ) → get_or self.now.rooms e 0 ≤ 8) }
+        ensures { result ≡ isPossible size (take list.len list.cells) self.now.needs self.now.rooms v }
+    {
+        for &place in list.as_slice() {
+            let e = wide(place);
+            if self.needs[e] < v {
+                return false;
+            }
+            if v + self.rooms[e] < self.needs[e] + size {
+                return false;
+            }
+        }
+        true
     }
-}
 
-// Raises the numbers at the places of a list: by as much, it undoes `lower`.
-pub fn raise(list: UpToEight, v: u8, numbers: &mut [u8; 1024])
-    requires on_board { OnBoard list }
-    requires numbers_len { length numbers.old ≡ 1024 }
-    requires v_bound { (v ≤ 8) × ((e : ℕ) → get_or numbers.old e 0 ≤ 8) }
-    ensures { numbers.new ≡ raised v (take list.len list.cells) numbers.old }
-{
-    let places = list.cells;
-    let len = list.len;
-    for k in 0..len {
-        numbers[wide(places[k])] = numbers[wide(places[k])] + v;
-    }
-}
-
-// Does no equation need a mine?
-pub fn all_met(needs: &[u8; 1024], equations: usize) -> bool
-    requires { (length needs.now ≡ 1024) × (equations ≤ 1024) × ((e : ℕ) → equations ≤ e → get_or needs.now e 0 ≡ 0) }
-    ensures { result ≡ all (λ n. eqb n 0) needs.now }
-{
-    for e in 0..equations {
-        if needs[e] != 0 {
-            return false;
+    // A group of so many cells, in the equations of a list, gets v mines: each needs so many less, and has so many unset cells less.
+    pub fn set_group(&mut self, list: UpToEight, size: u8, v: u8)
+        requires on_board { OnBoard list }
+        requires once { nodup (take list.len list.cells) ≡ true }
+        requires enough_needs { all (λ e. leb v (get_or self.old.needs e 0)) (take list.len list.cells) ≡ true }
+        requires enough_rooms { all (λ e. leb size (get_or self.old.rooms e 0)) (take list.len list.cells) ≡ true }
+        ensures needs_after { self.new.needs ≡ lowered v (take list.len list.cells) self.old.needs }
+        ensures rooms_after { self.new.rooms ≡ lowered size (take list.len list.cells) self.old.rooms }
+    {
+        for &place in list.as_slice() {
+            let e = wide(place);
+            self.needs[e] -= v;
+            self.rooms[e] -= size;
         }
     }
-    true
+
+    // The same group is unset again.
+    pub fn unset_group(&mut self, list: UpToEight, size: u8, v: u8)
+        requires on_board { OnBoard list }
+        requires size_bound { (size ≤ 8) × (v ≤ 8) × ((e : ℕ) → get_or self.old.needs e 0 ≤ 8) × ((e : ℕ) → get_or self.old.rooms e 0 ≤ 8) }
+        ensures needs_after { self.new.needs ≡ raised v (take list.len list.cells) self.old.needs }
+        ensures rooms_after { self.new.rooms ≡ raised size (take list.len list.cells) self.old.rooms }
+    {
+        for &place in list.as_slice() {
+            let e = wide(place);
+            self.needs[e] += v;
+            self.rooms[e] += size;
+        }
+    }
+
+    // Does none of so many equations need a mine?
+    pub fn all_met(&self, equations: usize) -> bool
+        requires { (equations ≤ 1024) × ((e : ℕ) → equations ≤ e → get_or self.now.needs e 0 ≡ 0) }
+        ensures { result ≡ all (λ n. eqb n 0) self.now.needs }
+    {
+        for &need in &self.needs[..equations] {
+            if need != 0 {
+                return false;
+            }
+        }
+        true
+    }
 }
 
 // How many of `left` solutions are still wanted after those of the groups from place `at` of the order on. Stops where none is; `values` then has the last found.
 #[cycle(spend_spend_values)]
 pub fn spend(
+    grouped: &Grouped,
     order: &[u16; 1024],
-    groups: usize,
-    equations: usize,
-    sizes: &[u8; 1024],
-    columns: &[u16; 8192],
     at: usize,
-    needs: &mut [u8; 1024],
-    rooms: &mut [u8; 1024],
+    unmet: &mut Unmet,
     values: &mut [u8; 1024],
     left: usize,
 ) -> usize
-    requires ordered { Ordered order.now groups equations sizes.now columns.now }
-    requires state { State equations needs.old rooms.old }
-    requires at_le_groups { (at ≤ groups) × (length values.old ≡ 1024) × (0 < left) }
-    ensures value { result ≡ left - length (tree_at order.now groups sizes.now columns.now at needs.old rooms.old) }
-    ensures needs_unchanged { (needs.new ≡ needs.old) × (rooms.new ≡ rooms.old) }
-    ensures kept { Kept (unset order.now groups at) values.old values.new }
-    ensures fact { result ≡ 0 → Memᴰ (map (λ (g : ℕ). get_or values.new g 0) (unset order.now groups at))
-        (tree_at order.now groups sizes.now columns.now at needs.old rooms.old) }
+    requires ordered { OrderOf grouped.now order.now }
+    requires state { StateOf grouped.now unmet.old }
+    requires at_le_groups { (at ≤ grouped.now.groups) × (length values.old ≡ 1024) × (0 < left) }
+    ensures value { result ≡ left - length (tree_of grouped.now order.now at unmet.old) }
+    ensures unmet_unchanged { unmet.new ≡ unmet.old }
+    ensures kept { Kept (unset_of grouped.now order.now at) values.old values.new }
+    ensures fact { result ≡ 0 → Memᴰ (map (λ (g : ℕ). get_or values.new g 0) (unset_of grouped.now order.now at)) (tree_of grouped.now order.now at unmet.old) }
 {
-    if at == groups {
-        if all_met(needs, equations) {
+    if at == grouped.groups {
+        if unmet.all_met(grouped.equations) {
             return left - 1;
         }
         return left;
     }
-    let size = sizes[wide(order[at])];
-    spend_values(
-        order, groups, equations, sizes, columns, at, 0, size, needs, rooms, values, left,
-    )
+    let size = grouped.sizes[wide(order[at])];
+    spend_values(grouped, order, at, 0, size, unmet, values, left)
 }
 
-// The same for the values from v to `to` of the group at place `at`.
+// The same for the values from `from` to `to` of the group at place `at`.
 #[cycle(spend_spend_values)]
 pub fn spend_values(
+    grouped: &Grouped,
     order: &[u16; 1024],
-    groups: usize,
-    equations: usize,
-    sizes: &[u8; 1024],
-    columns: &[u16; 8192],
     at: usize,
-    v: u8,
+    from: u8,
     to: u8,
-    needs: &mut [u8; 1024],
-    rooms: &mut [u8; 1024],
+    unmet: &mut Unmet,
     values: &mut [u8; 1024],
     left: usize,
 ) -> usize
-    requires ordered { Ordered order.now groups equations sizes.now columns.now }
-    requires state { State equations needs.old rooms.old }
-    requires at_lt_groups { (at < groups) × (to ≤ 8) × (length values.old ≡ 1024) × (0 < left) }
-    ensures value { result ≡ left - length (tree_from order.now groups sizes.now columns.now at v (suc to - v) needs.old rooms.old) }
-    ensures needs_unchanged { (needs.new ≡ needs.old) × (rooms.new ≡ rooms.old) }
-    ensures kept { Kept (unset order.now groups at) values.old values.new }
-    ensures fact { result ≡ 0 → Memᴰ (map (λ (g : ℕ). get_or values.new g 0) (unset order.now groups at))
-        (tree_from order.now groups sizes.now columns.now at v (suc to - v) needs.old rooms.old) }
+    requires ordered { OrderOf grouped.now order.now }
+    requires state { StateOf grouped.now unmet.old }
+    requires at_lt_groups { (at < grouped.now.groups) × (to ≤ 8) × (length values.old ≡ 1024) × (0 < left) }
+    ensures value { result ≡ left - length (tree_of_values grouped.now order.now at from to unmet.old) }
+    ensures unmet_unchanged { unmet.new ≡ unmet.old }
+    ensures kept { Kept (unset_of grouped.now order.now at) values.old values.new }
+    ensures fact { result ≡ 0 → Memᴰ (map (λ (g : ℕ). get_or values.new g 0) (unset_of grouped.now order.now at)) (tree_of_values grouped.now order.now at from to unmet.old) }
 {
-    if to < v {
-        return left;
-    }
     let g = wide(order[at]);
-    let size = sizes[g];
-    let list = slots_at(columns, g);
-    if !possible(list, size, v, needs, rooms) {
-        return spend_values(
-            order,
-            groups,
-            equations,
-            sizes,
-            columns,
-            at,
-            v + 1,
-            to,
-            needs,
-            rooms,
-            values,
-            left,
-        );
+    let size = grouped.sizes[g];
+    let list = slots_at(&grouped.columns, g);
+    let mut rest = left;
+    for v in from..=to {
+        if unmet.possible(list, size, v) {
+            values[g] = v;
+            unmet.set_group(list, size, v);
+            rest = spend(grouped, order, at + 1, unmet, values, rest);
+            unmet.unset_group(list, size, v);
+            if rest == 0 {
+                return 0;
+            }
+        }
     }
-    values[g] = v;
-    lower(list, v, needs);
-    lower(list, size, rooms);
-    let rest = spend(
-        order,
-        groups,
-        equations,
-        sizes,
-        columns,
-        at + 1,
-        needs,
-        rooms,
-        values,
-        left,
-    );
-    raise(list, v, needs);
-    raise(list, size, rooms);
-    if rest == 0 {
-        return 0;
-    }
-    spend_values(
-        order,
-        groups,
-        equations,
-        sizes,
-        columns,
-        at,
-        v + 1,
-        to,
-        needs,
-        rooms,
-        values,
-        rest,
-    )
+    rest
 }
