@@ -1,55 +1,60 @@
--- The turns of the loops over eight slots. `put_slots`: what is left of the list in its eight slots, stored from here on, gives what the whole list gives from
--- the first slot on. `slots_at`: the slots passed are cells, and with what comes before the filler in the others they are the equation's cells. Assumes nothing.
+-- The eight slots of an equation. `put_slots`: the list and the fillers behind it, written into the slots, are the list stored with its fillers. `slots_at`: the
+-- slots passed are cells, and with what comes before the filler in the others they are the equation's cells. Assumes nothing.
 use mathlib.Core.Path.{◌≡◌, refl, sym, ap, ◌∙◌}
 use mathlib.Core.Logic.{◌≢◌}
 use mathlib.Core.List.{List, [], ◌∷◌, ◌++◌, append-nil, append_assoc}
-use Prim.Native.Nat.{ℕ, suc, ◌+◌, ◌*◌, ◌≤◌, ◌<◌}
-use native.Mathlib.Nat.{add-zero}
+use Prim.Native.Nat.{ℕ, ◌+◌, ◌-◌, ◌*◌, ◌≤◌, ◌<◌}
 use native.Mathlib.Numerals.{add-one}
 use native.Mathlib.Omega.{arith}
-use lib.ListN.{length, get_or, take, drop, set, length-drop, get_or-eq_default}
-use lib.Seq.{sets, take-suc, get_or-take, get_or-drop, length-take-le}
+use borrow.Rule.Slice.PartMut.{put_mid, mid_of}
+use lib.ListN.{length, get_or, take, drop, set, replicate, length-append, length-drop, length-take, length-replicate, drop_of_length-le}
+use lib.Seq.{sets, sets-eq, take-suc, length-take-le, drop-drop, take_at}
 use borrow.Author.Tests.{ne_eqb}
 use Rattle.lists.specs.Lists.{pad}
-use Rattle.lists.proofs.Arrays.{length_pad, pad_read, pad_push, drop_more, drop_none}
-use Rattle.lists.proofs.Elements.{get_d_any}
+use Rattle.lists.proofs.Arrays.{pad_push, length_pad, drop_more, drop_none}
 use Rattle.grid.specs.Window.{listed}
+use Rattle.grid.specs.declared.window.UpToEight.{UpToEight}
 use Rattle.blocks.specs.BlockSets.{before, slot_cells}
 
--- ---- put_slots: `cells` with a count `len` goes into the eight slots from `base` on
+-- ---- put_slots
 
--- the slots once all is stored, where the first k slots are done
-unfoldable pub stored : List ℕ → ℕ → List ℕ → ℕ → ℕ → List ℕ
-stored cells len slots base k = sets slots (base + k) (drop k (pad 8 65535 (take len cells)))
+-- a part written whole is stored
+part_stored : (t : List ℕ) (a k : ℕ) (ys : List ℕ) → a + k ≤ length t → length ys ≡ k → put_mid a k t ys ≡ sets t a ys
+part_stored t a k ys h l =
+    let fits : a + length ys ≤ length t = omega arith in
+    rw (drop-drop, ← l) (sym (append_assoc (take a t) ys (drop (a + length ys) t)) ∙ sym (sets-eq ys t a fits))
 
-pub put_none : (cells : List ℕ) (len : ℕ) (slots : List ℕ) (base : ℕ) → stored cells len slots base 0 ≡ sets slots base (pad 8 65535 (take len cells))
-unfolding stored
-put_none cells len slots base = rw add-zero
+-- what stands behind a list that begins a part is written over
+behind_written : (own xs ys : List ℕ) (n : ℕ) → length xs ≡ n → n + length ys ≡ length own
+    → put_mid n (length (xs ++ drop n own) - n) (xs ++ drop n own) ys ≡ xs ++ ys
+behind_written own xs ys n l h =
+    let long : length (xs ++ drop n own) ≡ length own = omega (arith, length-append xs (drop n own), length-drop n own) in
+    let none : drop (length (xs ++ drop n own) - n) (drop n (xs ++ drop n own)) ≡ [] =
+    drop_of_length-le (drop n (xs ++ drop n own)) {i = length (xs ++ drop n own) - n} (omega (arith, length-drop n (xs ++ drop n own))) in
+    rw (none, take_at xs (drop n own) n l, append-nil)
 
-module _ (cells : List ℕ) (len : ℕ) (whole : length cells ≡ 8) (few : len ≤ 8) (slots : List ℕ) (base k : ℕ) where
-  length_list : length (take len cells) ≡ len
-  length_list = length-take-le len cells (omega arith)
+module _ (slots : List ℕ) (e : ℕ) (whole : length slots ≡ 8192) (h : e < 1024) where
+  pub length_part : length (mid_of (e * 8) (e * 8 + 8 - e * 8) slots) ≡ 8
+  length_part =
+      let k : e * 8 + 8 - e * 8 ≡ 8 = omega arith in
+      rw k (length-take-le 8 (drop (e * 8) slots) (omega (arith, length-drop (e * 8) slots)))
 
-  length_stored : length (pad 8 65535 (take len cells)) ≡ 8
-  length_stored = length_pad 8 65535 (take len cells) (omega (arith, length_list))
+  -- the part, with the list in it
+  abbrev copied : List ℕ → ℕ → List ℕ
+  copied xs n = xs ++ drop n (mid_of (e * 8) (e * 8 + 8 - e * 8) slots)
 
-  put_next : (x : ℕ) → get_or (take len cells) k 65535 ≡ x → k < 8 → stored cells len slots base k ≡ stored cells len (set slots (base + k) x) base (k + 1)
-  unfolding stored
-  put_next x e h =
-      let n : base + (k + 1) ≡ suc (base + k) = omega arith in
-      rw (drop_more (pad 8 65535 (take len cells)) k 65535 (omega (arith, length_stored)), pad_read 8 65535 (take len cells) k, e, n)
-
-  -- a turn inside the list
-  pub put_cell : k < len → stored cells len slots base k ≡ stored cells len (set slots (base + k) (get_or cells k 0)) base (k + 1)
-  put_cell h = put_next (get_or cells k 0) (get_or-take len cells k 65535 h ∙ get_d_any cells k 65535 0 (omega arith)) (omega arith)
-
-  -- a turn behind the list
-  pub put_filler : len ≤ k → k < 8 → stored cells len slots base k ≡ stored cells len (set slots (base + k) 65535) base (k + 1)
-  put_filler h u = put_next 65535 (get_or-eq_default (take len cells) 65535 (omega (arith, length_list))) u
-
-  pub put_last : 8 ≤ k → stored cells len slots base k ≡ slots
-  unfolding stored
-  put_last h = rw (drop_none (pad 8 65535 (take len cells)) k (omega (arith, length_stored)))
+  pub put_both : (xs fillers : List ℕ) (n : ℕ) → length xs ≡ n → n ≤ 8 → fillers ≡ replicate (length (take (length (copied xs n) - n) (drop n (copied xs n)))) 65535
+      → put_mid (e * 8) (e * 8 + 8 - e * 8) slots (put_mid n (length (copied xs n) - n) (copied xs n) fillers) ≡ sets slots (e * 8) (pad 8 65535 xs)
+  put_both xs fillers n l few f =
+      let own = mid_of (e * 8) (e * 8 + 8 - e * 8) slots in
+      let k : e * 8 + 8 - e * 8 ≡ 8 = omega arith in
+      let long : length (copied xs n) ≡ 8 = omega (arith, length_part, length-append xs (drop n own), length-drop n own) in
+      let m : length (take (length (copied xs n) - n) (drop n (copied xs n))) ≡ 8 - length xs =
+      omega (arith, length-take (length (copied xs n) - n) (drop n (copied xs n)), length-drop n (copied xs n)) in
+      let same : fillers ≡ replicate (8 - length xs) 65535 = f ∙ ap (λ (i : ℕ). replicate i 65535) m in
+      ap (put_mid (e * 8) (e * 8 + 8 - e * 8) slots)
+      (behind_written own xs fillers n l (omega (arith, length_part, ap length same, length-replicate {A = ℕ} (8 - length xs) 65535)))
+      ∙ rw (k, same) (part_stored slots (e * 8) 8 (pad 8 65535 xs) (omega arith) (length_pad 8 65535 xs (omega arith)))
 
 -- ---- slots_at: the eight slots of an equation are passed one by one
 
@@ -57,65 +62,58 @@ module _ (cells : List ℕ) (len : ℕ) (whole : length cells ≡ 8) (few : len 
 abbrev pub own_slots : List ℕ → ℕ → List ℕ
 own_slots slots e = take 8 (drop (e * 8) slots)
 
--- `len` slots are passed, and `cells` has them
-pub record Passed (own cells : List ℕ) (len : ℕ) : Type 0 where
-  pub few : len ≤ 8
-  pub held : cells ≡ pad 8 0 (take len own)
-  pub rest : take len own ++ before 65535 (drop len own) ≡ before 65535 own
+-- n slots are passed, and the list has them
+pub record Passed (own : List ℕ) (list : UpToEight) (n : ℕ) : Type 0 where
+  pub counted : list.len ≡ n
+  pub held : list.cells ≡ pad 8 0 (take n own)
+  pub rest : take n own ++ before 65535 (drop n own) ≡ before 65535 own
 
-pub pass_none : (own : List ℕ) → Passed own (pad 8 0 []) 0
-pass_none own = record { few = omega arith; held = refl; rest = refl }
+pub pass_none : (own : List ℕ) → Passed own (listed []) 0
+pass_none own = record { counted = refl; held = refl; rest = refl }
 
-module _ (own cells : List ℕ) (len : ℕ) (long : length own ≡ 8) (p : Passed own cells len) where
-  length_passed : length (take len own) ≡ len
-  length_passed = length-take-le len own (omega arith)
-
+module _ (own : List ℕ) (list : UpToEight) (n : ℕ) (long : length own ≡ 8) (p : Passed own list n) where
   -- the next slot is a cell
-  module _ (u : len < 8) (f : get_or own len 0 ≢ 65535) where
-    take_more : take (len + 1) own ≡ take len own ++ (get_or own len 0 ∷ [])
-    take_more = rw add-one (take-suc own len 0 (omega arith))
+  module _ (x : ℕ) (u : n < length own) (at : x ≡ get_or own n 0) (f : x ≢ 65535) where
+    length_passed : length (take n own) ≡ n
+    length_passed = length-take-le n own (omega arith)
 
-    before_more : before 65535 (drop len own) ≡ get_or own len 0 ∷ before 65535 (drop (len + 1) own)
-    before_more = rw (drop_more own len 0 (omega arith), ne_eqb (get_or own len 0) 65535 f)
+    take_more : take (n + 1) own ≡ take n own ++ (x ∷ [])
+    take_more = rw (add-one, at) (take-suc own n 0 u)
 
-    held_more : set (pad 8 0 (take len own)) len (get_or own len 0) ≡ pad 8 0 (take (len + 1) own)
+    before_more : before 65535 (drop n own) ≡ x ∷ before 65535 (drop (n + 1) own)
+    before_more = rw (drop_more own n 0 u, ← at, ne_eqb x 65535 f)
+
+    held_more : set (pad 8 0 (take n own)) n x ≡ pad 8 0 (take (n + 1) own)
     held_more =
-        ap (λ (i : ℕ). set (pad 8 0 (take len own)) i (get_or own len 0)) (sym length_passed)
-        ∙ pad_push 8 0 (take len own) (get_or own len 0) (omega (arith, length_passed))
+        ap (λ (i : ℕ). set (pad 8 0 (take n own)) i x) (sym length_passed)
+        ∙ pad_push 8 0 (take n own) x (omega (arith, length_passed))
         ∙ ap (pad 8 0) (sym take_more)
 
-    rest_more : take (len + 1) own ++ before 65535 (drop (len + 1) own) ≡ take len own ++ before 65535 (drop len own)
-    rest_more = rw (take_more, before_more, append_assoc)
-
-    cell_passed : Passed own (set cells len (get_or own len 0)) (len + 1)
-    cell_passed = record { few = omega arith; held = rw p.held held_more; rest = rest_more ∙ p.rest }
+    pub pass_cell : Passed own (record { cells = set list.cells list.len x; len = list.len + 1 }) (n + 1)
+    pass_cell =
+        record {
+          counted = omega (arith, p.counted);
+          held = rw (p.counted, p.held) held_more;
+          rest = rw (take_more, append_assoc) (ap (λ (r : List ℕ). take n own ++ r) (sym before_more) ∙ p.rest);
+        }
 
   -- no cell is left
-  none_left : before 65535 (drop len own) ≡ [] → record { cells = cells; len = len } ≡ listed (before 65535 own)
-  none_left e =
-      let l : take len own ≡ before 65535 own = sym (append-nil (take len own)) ∙ ap (λ (r : List ℕ). take len own ++ r) (sym e) ∙ p.rest in
-      rw (p.held, ← l) (ap (λ (n : ℕ). record { cells = pad 8 0 (take len own); len = n }) (sym length_passed))
-
--- the slots as the code reads them
-module _ (slots : List ℕ) (e : ℕ) (whole : length slots ≡ 8192) (h : e < 1024) (cells : List ℕ) (len : ℕ) (p : Passed (own_slots slots e) cells len) where
-  length_own : length (own_slots slots e) ≡ 8
-  length_own = length-take-le 8 (drop (e * 8) slots) (omega (arith, length-drop (e * 8) slots))
-
-  own_read : len < 8 → get_or (own_slots slots e) len 0 ≡ get_or slots (e * 8 + len) 0
-  own_read u = get_or-take 8 (drop (e * 8) slots) len 0 u ∙ get_or-drop (e * 8) slots len 0
-
-  -- a turn
-  pub pass_cell : len < 8 → get_or slots (e * 8 + len) 0 ≢ 65535 → Passed (own_slots slots e) (set cells len (get_or slots (e * 8 + len) 0)) (len + 1)
-  pass_cell u f =
-      rw (← own_read u) (cell_passed (own_slots slots e) cells len length_own p u (λ w. f (sym (own_read u) ∙ w)))
+  none_left : n ≤ length own → before 65535 (drop n own) ≡ [] → list ≡ listed (before 65535 own)
+  none_left h e =
+      let l : take n own ≡ before 65535 own = sym (append-nil (take n own)) ∙ ap (λ (r : List ℕ). take n own ++ r) (sym e) ∙ p.rest in
+      let m : list.len ≡ length (before 65535 own) = p.counted ∙ sym (length-take-le n own h) ∙ ap length l in
+      let c : list.cells ≡ pad 8 0 (before 65535 own) = p.held ∙ ap (pad 8 0) l in
+      ap (λ (k : List ℕ). record { cells = k; len = list.len }) c ∙ ap (λ (k : ℕ). record { cells = pad 8 0 (before 65535 own); len = k }) m
 
   -- the end at the first filler, and the end at the eighth slot
-  pub pass_filler : len < 8 → get_or slots (e * 8 + len) 0 ≡ 65535 → record { cells = cells; len = len } ≡ listed (slot_cells slots e)
-  unfolding slot_cells
-  pass_filler u w =
-      none_left (own_slots slots e) cells len length_own p (rw (drop_more (own_slots slots e) len 0 (omega (arith, length_own)), own_read u, w))
+  pub pass_filler : n < length own → get_or own n 0 ≡ 65535 → list ≡ listed (before 65535 own)
+  pass_filler u w = none_left (omega arith) (rw (drop_more own n 0 u, w))
 
-  pub pass_last : 8 ≤ len → record { cells = cells; len = len } ≡ listed (slot_cells slots e)
+  pub pass_last : n ≡ length own → list ≡ listed (before 65535 own)
+  pass_last u = none_left (omega arith) (ap (before 65535) (drop_none own n (omega arith)))
+
+-- the slots as the code lends them
+module _ (slots : List ℕ) (e : ℕ) (list : UpToEight) (is : list ≡ listed (before 65535 (mid_of (e * 8) (e * 8 + 8 - e * 8) slots))) where
+  pub passed_all : list ≡ listed (slot_cells slots e)
   unfolding slot_cells
-  pass_last u =
-      none_left (own_slots slots e) cells len length_own p (ap (before 65535) (drop_none (own_slots slots e) len (omega (arith, length_own))))
+  passed_all = let k : e * 8 + 8 - e * 8 ≡ 8 = omega arith in rw k at is

@@ -1,6 +1,6 @@
 -- Cited by no public contract. What functions over the arrays of a block set are told. Cells are marked in an array of bytes, 1 for a cell of a list and 0 for
 -- any other; a block's cells and equations stand between two places of the arrays; and blocks are put behind those that a set holds. Assumes nothing.
-use Rattle.std.specs.Prelude.{◌≡◌, Bool, true, List, ◌++◌, map, ℕ, ◌-◌, ◌≤◌, ◌<◌, eqb, ltb, length, get_or, take}
+use Rattle.std.specs.Prelude.{◌≡◌, Bool, true, List, ◌++◌, map, ℕ, ◌+◌, ◌-◌, ◌≤◌, ◌<◌, eqb, ltb, length, get_or, set, take}
 use Rattle.lists.specs.Lists.{range, bit, all, has}
 use Rattle.grid.specs.declared.window.UpToEight.{UpToEight}
 use Rattle.blocks.specs.Blocks.{BlockEquation, Block}
@@ -79,6 +79,17 @@ abbrev pub block_between : BlockSet → Bounds → Block
 block_between set bounds = block_from set.cells set.slots set.rests bounds
 
 -- ---- blocks behind those of a set
+
+-- a set with the ends of one block more, whose cells and equations are in their arrays
+abbrev pub block_ended : BlockSet → ℕ → ℕ → BlockSet
+block_ended out end_cell end_equation = record {
+  cells = out.cells;
+  cell_ends = set out.cell_ends out.blocks end_cell;
+  slots = out.slots;
+  rests = out.rests;
+  equation_ends = set out.equation_ends out.blocks end_equation;
+  blocks = out.blocks + 1;
+}
 
 -- the set holds its blocks and nothing else, and there is room for more behind them
 pub record Room (out : BlockSet) (more : List Block) : Type 0 where

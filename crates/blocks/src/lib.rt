@@ -7,7 +7,7 @@ ghost use Rattle.std.proofs.lemmas.List.Edits.{sets};
 ghost use Rattle.lists.specs.Lists.{any, pad};
 ghost use Rattle.grid.specs.Window.{listed};
 ghost use Rattle.blocks.specs.BlockSets.{block_set, slot_cells, begin_at};
-ghost use Rattle.blocks.specs.Places.{marked, Marks, cells_in, OnBoard, bounds_at, bounds_of};
+ghost use Rattle.blocks.specs.Places.{marked, Marks, cells_in, OnBoard, bounds_at, bounds_of, cells_from, block_ended};
 
 use grid::window::{UpToEight, wide};
 
@@ -49,16 +49,9 @@ pub fn put_slots(slots: &mut [u16; 8192], e: usize, list: UpToEight)
     requires { (length slots.old ≡ 8192) × (e < 1024) × (list.len ≤ 8) }
     ensures { slots.new ≡ sets slots.old (e * 8) (pad 8 65535 (take list.len list.cells)) }
 {
-    let cells = list.cells;
-    let len = list.len;
-    let base = e * 8;
-    for k in 0..8 {
-        if k < len {
-            slots[base + k] = cells[k];
-        } else {
-            slots[base + k] = NO_CELL;
-        }
-    }
+    let own = &mut slots[e * 8..e * 8 + 8];
+    own[..list.len].copy_from_slice(list.as_slice());
+    own[list.len..].fill(NO_CELL);
 }
 
 // The cells in the eight slots at place e.
@@ -66,18 +59,14 @@ pub fn slots_at(slots: &[u16; 8192], e: usize) -> UpToEight
     requires { (length slots.now ≡ 8192) × (e < 1024) }
     ensures { result ≡ listed (slot_cells slots.now e) }
 {
-    let first = e * 8;
-    let mut cells = [0u16; 8];
-    let mut len = 0;
-    while len < 8 {
-        let c = slots[first + len];
-        if c == NO_CELL {
+    let mut list = UpToEight::empty();
+    for &cell in &slots[e * 8..e * 8 + 8] {
+        if cell == NO_CELL {
             break;
         }
-        cells[len] = c;
-        len += 1;
+        list.push(cell);
     }
-    UpToEight { cells, len }
+    list
 }
 
 // Where a block's cells and equations begin and end.
@@ -117,6 +106,40 @@ impl BlockSet {
         ensures { result ≡ bounds_of self.now b }
     {
         bounds_at(&self.cell_ends, &self.equation_ends, b)
+    }
+
+    // The cells between these bounds.
+    pub fn cells_of(&self, bounds: Bounds) -> &[u16]
+        requires { (bounds.first_cell ≤ bounds.end_cell) × (bounds.end_cell ≤ 1024) }
+        ensures { result.now ≡ cells_from self.now.cells bounds.first_cell bounds.end_cell }
+    {
+        &self.cells[bounds.first_cell..bounds.end_cell]
+    }
+
+    // Where the cells of the next block begin.
+    pub fn next_cell(&self) -> usize
+        requires { self.now.blocks ≤ 1024 }
+        ensures { result ≡ begin_at self.now.cell_ends self.now.blocks }
+    {
+        begin_at(&self.cell_ends, self.blocks)
+    }
+
+    // Where the equations of the next block begin.
+    pub fn next_equation(&self) -> usize
+        requires { self.now.blocks ≤ 1024 }
+        ensures { result ≡ begin_at self.now.equation_ends self.now.blocks }
+    {
+        begin_at(&self.equation_ends, self.blocks)
+    }
+
+    // Ends the next block, whose cells and equations are in their arrays already.
+    pub fn end_block(&mut self, end_cell: usize, end_equation: usize)
+        requires { (self.old.blocks < 1024) × (end_cell ≤ 1024) × (end_equation ≤ 1024) }
+        ensures { self.new ≡ block_ended self.old end_cell end_equation }
+    {
+        self.cell_ends[self.blocks] = end_cell as u16;
+        self.equation_ends[self.blocks] = end_equation as u16;
+        self.blocks += 1;
     }
 }
 

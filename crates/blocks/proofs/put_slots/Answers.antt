@@ -1,27 +1,16 @@
--- `blocks::put_slots` meets its contract. The loop's invariant: the slots with what is left of the list stored from slot k on are the slots at entry with all of
--- it stored. The measure is what is left of eight. It rests on the laws of one turn in `Turns`. Assumes nothing.
-use mathlib.Core.Path.{◌≡◌, sym, ◌∙◌}
+-- `blocks::put_slots` meets its contract: the list and the fillers behind it are written over all eight slots. Assumes nothing.
+use mathlib.Core.Path.{◌≡◌, ◌∙◌}
 use native.Mathlib.Omega.{arith}
-use borrow.Author.Rules.{rules}
 use lib.ListN.{length}
-use Rattle.blocks.proofs.Turns.{put_none, put_cell, put_filler, put_last}
+use lib.Seq.{length-take-le}
+use borrow.Author.Rules.{rules}
+use Rattle.blocks.proofs.Turns.{put_both}
 use Rattle.blocks.proofs.put_slots.Goals as goal
-use Rattle.blocks.proofs.put_slots.Goals.{else-k-len, then-k-len}
-
-pub loop-k-init : goal.loop-k-init
-loop-k-init c = (search rules, put_none _ _ _ _)
-
-pub loop-k-preserved : goal.loop-k-preserved
-loop-k-preserved c =
-    let l = c.loop-k in
-    let whole : length c.args.list.cells ≡ 8 = search rules in
-    elim c.if-k-len.branch [
-      | then-k-len w ↦ (search rules, rw w.slots-is (sym (put_cell _ _ whole (omega arith) l.slots _ l.k w.if-k-len.true) ∙ l.invariant.1))
-      | else-k-len w ↦ (search rules, rw w.slots-is (sym (put_filler _ _ whole (omega arith) l.slots _ l.k w.if-k-len.false (omega arith)) ∙ l.invariant.1))
-    ]
 
 pub returns : goal.returns
 returns c =
-    let l = c.loop-k in
-    let whole : length c.args.list.cells ≡ 8 = search rules in
-    sym (put_last _ _ whole (omega arith) l.slots _ l.k (omega arith)) ∙ l.invariant.1
+    let list = c.args.list in
+    let eight : length list.cells ≡ 8 = search rules in
+    let long = length-take-le list.len list.cells (omega arith) in
+    let copied = c.copy_from_slice.ensures.after ∙ c.as_slice.ensures in
+    rw copied (put_both c.args.slots.now c.args.e c.requires.0 c.requires.1 _ _ list.len long c.requires.2 (rw copied at (c.fill.ensures.after (λ y h. h))))

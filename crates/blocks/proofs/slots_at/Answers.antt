@@ -1,23 +1,26 @@
--- `blocks::slots_at` meets its contract. The loop's invariant: the slots passed are cells, `cells` has them, and with what comes before the filler in the other
--- slots they are the equation's cells. The measure is what is left of eight. It rests on the laws of one turn in `Turns`. Assumes nothing.
+-- `blocks::slots_at` meets its contract. The loop's invariant is told beside it. It rests on the laws of one turn in `Turns`. Assumes nothing.
+use mathlib.Core.Path.{refl}
 use native.Mathlib.Omega.{arith}
-use Rattle.blocks.proofs.Turns.{own_slots, pass_none, pass_cell, pass_filler, pass_last}
+use Rattle.blocks.proofs.Turns.{length_part, pass_none, pass_cell, pass_filler, pass_last, passed_all}
 use Rattle.blocks.proofs.slots_at.Goals as goal
 
-pub loop-len-init : goal.loop-len-init
-loop-len-init c = pass_none (own_slots c.args.slots.now c.args.e)
+pub loop-cell-init : goal.loop-cell-init
+loop-cell-init c = rw c.empty-list.ensures (pass_none _)
 
-pub loop-len-preserved : goal.loop-len-preserved
-loop-len-preserved c =
-    let l = c.loop-len in
-    pass_cell c.args.slots.now c.args.e c.requires.0 c.requires.1 l.cells l.len l.invariant (omega arith) c.if-c.false
+pub push-requires : goal.push-requires
+push-requires c = omega (arith, length_part c.args.slots.now c.args.e c.requires.0 c.requires.1)
 
-pub returns-after-loop-len : goal.returns-after-loop-len
-returns-after-loop-len c =
-    let l = c.loop-len in
-    pass_last c.args.slots.now c.args.e c.requires.0 c.requires.1 l.cells l.len l.invariant (omega arith)
+pub loop-cell-preserved : goal.loop-cell-preserved
+loop-cell-preserved c =
+    let eight = length_part c.args.slots.now c.args.e c.requires.0 c.requires.1 in
+    rw c.push.ensures (pass_cell _ _ _ eight c.loop-cell.invariant _ c.loop-cell-test.true refl c.if-cell.false)
 
-pub returns-then-c : goal.returns-then-c
-returns-then-c c =
-    let l = c.loop-len in
-    pass_filler c.args.slots.now c.args.e c.requires.0 c.requires.1 l.cells l.len l.invariant (omega arith) c.if-c.true
+pub returns-after-loop-cell : goal.returns-after-loop-cell
+returns-after-loop-cell c =
+    let eight = length_part c.args.slots.now c.args.e c.requires.0 c.requires.1 in
+    passed_all _ _ _ (pass_last _ _ _ eight c.loop-cell.invariant (omega arith))
+
+pub returns-then-cell : goal.returns-then-cell
+returns-then-cell c =
+    let eight = length_part c.args.slots.now c.args.e c.requires.0 c.requires.1 in
+    passed_all _ _ _ (pass_filler _ _ _ eight c.loop-cell.invariant c.loop-cell-test.true c.if-cell.true)

@@ -1,9 +1,6 @@
-use Prim.Native.Nat.{◌-◌}
-use Rattle.blocks.proofs.Turns.{own_slots, Passed}
+-- The loop's invariant: the slots passed are cells, the list has them, and with what comes before the filler in the other slots they are the equation's cells.
+use Rattle.blocks.proofs.Turns.{Passed}
 use Rattle.blocks.proofs.slots_at.Given as goal
 
-abbrev pub invariant-loop-len : goal.invariant-loop-len
-invariant-loop-len l = Passed (own_slots l.slots l.e) l.cells l.len
-
-abbrev pub decreases-loop-len : goal.decreases-loop-len
-decreases-loop-len l = 8 - l.len
+abbrev pub invariant-loop-cell : goal.invariant-loop-cell
+invariant-loop-cell l = Passed l.cell-items l.list l.cell-index
