@@ -13,7 +13,8 @@ use lib.Seq.{take-suc-set, take-take, length-take-le}
 use borrow.Author.Tests.{eqb-true, eq-eqb, ne_eqb, lt-ltb}
 use Rattle.lists.proofs.Tests.{Decided, decided}
 use Rattle.lists.proofs.All.{all_push, all_take}
-use Rattle.lists.proofs.Counted.{counted_more, counted_none, rest_below}
+use Rattle.lists.proofs.Arrays.{drop_more, drop_none}
+use Rattle.lists.proofs.Counted.{rest_below}
 use Rattle.lists.proofs.Elements.{get_d_any}
 use Rattle.grid.specs.Cells.{cell_of, shows}
 use Rattle.fitting.proofs.Layouts.{on_board}
@@ -70,17 +71,17 @@ module _ (b p array : List ℕ) (n c : ℕ) (r : Room b p array n) (some : 0 < n
     on_board = rw (take-take (n - 1) n array (omega arith)) at (all_take (λ d. ltb d (length b)) (n - 1) (take n array) r.on_board);
   }
 
--- ---- the first `len` cells of a list, opened one after another: those from k on are left
+-- ---- the cells of a list, opened one after another: those from k on are left
 
-module _ (b : List ℕ) (s : Flooding) (list : List ℕ) (len k : ℕ) where
-  pub each_next : len ≤ length list → k < len → (t : Flooding) → t ≡ open_one b s (get_or list k 0)
-      → open_each b t (drop (k + 1) (take len list)) ≡ open_each b s (drop k (take len list))
+module _ (b : List ℕ) (s : Flooding) (list : List ℕ) (k : ℕ) where
+  pub each_next : k < length list → (t : Flooding) → t ≡ open_one b s (get_or list k 0)
+      → open_each b t (drop (k + 1) list) ≡ open_each b s (drop k list)
   unfolding open_each
-  each_next few before t e = rw (counted_more list len k 0 before few, e)
+  each_next before t e = rw (drop_more list k 0 before, e)
 
-  pub each_end : len ≤ k → open_each b s (drop k (take len list)) ≡ s
+  pub each_end : length list ≤ k → open_each b s (drop k list) ≡ s
   unfolding open_each
-  each_end past = rw (counted_none list len k past)
+  each_end past = rw (drop_none list k past)
 
 -- ---- cells on the stack and closed cells
 

@@ -2,104 +2,97 @@
 // most once; the stack has the opened cells whose neighbours are still to be looked at.
 #![tactic(auto)]
 
-ghost use Rattle.std.specs.Prelude.{◌≡◌, true, ◌*◌, ◌≤◌, ◌<◌, ltb, length, take};
+ghost use Rattle.std.specs.Prelude.{◌≡◌, true, ◌+◌, ◌-◌, ◌*◌, ◌≤◌, ◌<◌, ltb, length, get_or, set, IfSome, IfNone};
 ghost use Rattle.lists.specs.Lists.{all};
 ghost use Rattle.grid.specs.Window.{neighbours, Board};
 ghost use Rattle.fitting.specs.Boards.{Accepted};
 ghost use Rattle.fitting.specs.Passes.{open_cells};
 ghost use Rattle.flood.specs.Stack.{held, open_one, open_each, Room};
 
-use grid::window::{UpToEight, neighbours_of, wide};
+use grid::window::{neighbours_of, wide};
+
+// The opened cells whose neighbours are still to be looked at: the first `len` of an array.
+#[derive(Drop)]
+struct Stack {
+    cells: [u16; 1024],
+    len: usize,
+}
+
+impl Stack {
+    fn push(&mut self, cell: u16)
+        requires { self.old.len < 1024 }
+        ensures { self.new ≡ record { cells = set self.old.cells self.old.len cell; len = self.old.len + 1 } }
+    {
+        self.cells[self.len] = cell;
+        self.len += 1;
+    }
+
+    fn pop(&mut self) -> Option<u16>
+        requires { self.old.len ≤ 1024 }
+        ensures empty { IfNone result ((self.old.len ≡ 0) × (self.new ≡ self.old)) }
+        ensures last { IfSome result (λ cell. (0 < self.old.len) × (cell ≡ get_or self.old.cells (self.old.len - 1) 0)
+            × (self.new ≡ record { cells = self.old.cells; len = self.old.len - 1 })) }
+    {
+        if self.len == 0 {
+            return None;
+        }
+        self.len -= 1;
+        Some(self.cells[self.len])
+    }
+}
 
 // Opens a cell that is closed and puts it on the stack.
-fn open_cell(
-    board: &[u8],
-    position: &mut [u8],
-    cell: u16,
-    stack: &mut [u16; 1024],
-    n: usize,
-) -> usize
-    requires room { Room board.now position.old stack.old n }
+fn open_cell(board: &[u8], position: &mut [u8], cell: u16, stack: &mut Stack)
+    requires room { Room board.now position.old stack.old.cells stack.old.len }
     requires cell_in_bounds { cell < length board.now }
-    ensures room_2 { Room board.now position.new stack.new result }
-    ensures result_after { held position.new stack.new result ≡ open_one board.now (held position.old stack.old n) cell }
+    ensures room_2 { Room board.now position.new stack.new.cells stack.new.len }
+    ensures opened { held position.new stack.new.cells stack.new.len
+        ≡ open_one board.now (held position.old stack.old.cells stack.old.len) cell }
 {
     let c = wide(cell);
-    if position[c] != 10 {
-        return n;
+    if position[c] == 10 {
+        position[c] = board[c];
+        stack.push(cell);
     }
-    position[c] = board[c];
-    stack[n] = cell;
-    n + 1
 }
 
 // Opens the closed cells of a list.
-fn open_list(
-    board: &[u8],
-    position: &mut [u8],
-    list: UpToEight,
-    stack: &mut [u16; 1024],
-    before: usize,
-) -> usize
-    requires room { Room board.now position.old stack.old before }
-    requires len_bound { (list.len ≤ 8) × (all (λ c. ltb c (length board.now)) (take list.len list.cells) ≡ true) }
-    ensures room_2 { Room board.now position.new stack.new result }
-    ensures result_after { held position.new stack.new result
-        ≡ open_each board.now (held position.old stack.old before) (take list.len list.cells) }
+fn open_list(board: &[u8], position: &mut [u8], cells: &[u16], stack: &mut Stack)
+    requires room { Room board.now position.old stack.old.cells stack.old.len }
+    requires on_board { all (λ c. ltb c (length board.now)) cells.now ≡ true }
+    ensures room_2 { Room board.now position.new stack.new.cells stack.new.len }
+    ensures opened { held position.new stack.new.cells stack.new.len
+        ≡ open_each board.now (held position.old stack.old.cells stack.old.len) cells.now }
 {
-    let cells = list.cells;
-    let len = list.len;
-    let mut n = before;
-    for k in 0..len {
-        n = open_cell(board, position, cells[k], stack, n);
+    for &cell in cells {
+        open_cell(board, position, cell, stack);
     }
-    n
 }
 
-// Opens the first `count` cells of a list.
-fn open_first(
-    board: &[u8],
-    position: &mut [u8],
-    list: &[u16; 1024],
-    count: usize,
-    stack: &mut [u16; 1024],
-) -> usize
-    requires room { Room board.now position.old stack.old 0 }
-    requires count_bound { (count ≤ 1024) × (length list.now ≡ 1024) × (all (λ c. ltb c (length board.now)) (take count list.now) ≡ true) }
-    ensures room_2 { Room board.now position.new stack.new result }
-    ensures result_after { held position.new stack.new result
-        ≡ open_each board.now (held position.old stack.old 0) (take count list.now) }
-{
-    let mut n = 0;
-    for k in 0..count {
-        n = open_cell(board, position, list[k], stack, n);
-    }
-    n
-}
-
-// refresh_board, from the first `count` cells of a list.
+// refresh_board, from the cells of a list.
 pub fn refresh_board(
     edgeless: bool,
     rows: usize,
     columns: usize,
     board: &[u8],
     position: &mut [u8],
-    list: &[u16; 1024],
-    count: usize,
+    cells: &[u16],
 )
     requires board { Board board.now rows columns × Board position.old rows columns }
     requires accepted { Accepted (neighbours edgeless rows columns) board.now }
-    requires count_bound { (count ≤ 1024) × (length list.now ≡ 1024) × (all (λ c. ltb c (rows * columns)) (take count list.now) ≡ true) }
-    ensures { position.new ≡ open_cells (neighbours edgeless rows columns) board.now position.old (take count list.now) }
+    requires on_board { all (λ c. ltb c (rows * columns)) cells.now ≡ true }
+    ensures { position.new ≡ open_cells (neighbours edgeless rows columns) board.now position.old cells.now }
 {
-    let mut stack = [0u16; 1024];
-    let mut n = open_first(board, position, list, count, &mut stack);
-    while 0 < n {
-        n -= 1;
-        let c = wide(stack[n]);
+    let mut stack = Stack {
+        cells: [0; 1024],
+        len: 0,
+    };
+    open_list(board, position, cells, &mut stack);
+    while let Some(cell) = stack.pop() {
+        let c = wide(cell);
         if board[c] == 0 {
             let near = neighbours_of(edgeless, rows, columns, c / columns, c % columns);
-            n = open_list(board, position, near, &mut stack, n);
+            open_list(board, position, near.as_slice(), &mut stack);
         }
     }
 }

@@ -4,21 +4,18 @@ use mathlib.Core.Path.{◌≡◌, refl, sym, ap, ◌∙◌}
 use mathlib.Core.Logic.{inl, inr}
 use mathlib.Core.Bool.{false, cond, ◌||◌, and-false, or-false, or_assoc}
 use mathlib.Core.List.{List, [], ◌∷◌, ◌++◌, map}
-use Prim.Native.Nat.{ℕ, ◌+◌, ◌*◌, ◌≤◌, ◌<◌}
+use Prim.Native.Nat.{ℕ, zero, suc, ◌+◌, ◌*◌, ◌≤◌, ◌<◌}
 use native.Mathlib.Omega.{arith}
-use native.Mathlib.Decide.{ℕ_discrete}
 use lib.Dec.{eqb}
-use lib.ListN.{length, get_or, set, length-map, length-set}
-use lib.Seq.{get_or-set_same, get_or-set_other}
+use lib.ListN.{length, get_or, replicate, length-map}
 use borrow.Author.Tests.{ne_eqb}
 use Rattle.lists.specs.Lists.{range, any, first_place}
 use Rattle.lists.proofs.Tests.{Decided, decided}
-use Rattle.lists.proofs.Elements.{get_d_any}
 use Rattle.lists.proofs.FirstPlaces.{first_place_within, first_place_front, first_place_behind}
 use Rattle.lists.proofs.Joined.{read_all, map_range}
 use Rattle.lists.proofs.Rearranged.{length_range}
 use Rattle.lists.proofs.ReadBack.{range_made}
-use Rattle.grid.specs.Cells.{cell_of, shows}
+use Rattle.grid.specs.Cells.{shows}
 use Rattle.grid.specs.Window.{Board}
 use Rattle.rounds.specs.Rounds.{open_at, round_of, rounds_of}
 use Rattle.rounds.specs.GivenRounds.{round_after, round_given}
@@ -31,27 +28,11 @@ pub record Made (f : ℕ → ℕ) (l₀ l : List ℕ) (i : ℕ) : Type 0 where
   pub done : (c : ℕ) → c < i → c < length l₀ → get_or l c 0 ≡ f c
   pub rest : (c : ℕ) → i ≤ c → get_or l c 0 ≡ get_or l₀ c 0
 
-module _ (f : ℕ → ℕ) {l₀ : List ℕ} where
-  pub made_first : Made f l₀ l₀ 0
-  made_first = record { long = refl; done = λ c h _. absurd (omega arith); rest = λ c _. refl }
-
-  module _ {l : List ℕ} {i : ℕ} (m : Made f l₀ l i) where
-    pub made_next : i < length l → (v : ℕ) → v ≡ f i → Made f l₀ (set l i v) (i + 1)
-    made_next on v is = record {
-      long = length-set l i v ∙ m.long;
-      done = λ c h k. go c h k (ℕ_discrete c i);
-      rest = λ c h. get_or-set_other l i c v 0 (omega arith) ∙ m.rest c (omega arith);
-    }
-      where
-        go : (c : ℕ) → c < i + 1 → c < length l₀ → Dec (c ≡ i) → get_or (set l i v) c 0 ≡ f c
-        go c h k (yes e) = rw e (get_or-set_same l i v 0 on ∙ is)
-        go c h k (no n) = get_or-set_other l i c v 0 n ∙ m.done c (omega arith) k
-
-    pub made_last : length l₀ ≤ i → l ≡ map f (range 0 (length l₀))
-    made_last past =
-        sym (read_all l 0)
-        ∙ ap (λ (k : ℕ). map (λ (c : ℕ). get_or l c 0) (range 0 k)) m.long
-        ∙ map_range (λ (c : ℕ). get_or l c 0) f 0 (length l₀) (λ c _ h. m.done c (omega arith) (omega arith))
+pub made_last : (f : ℕ → ℕ) {l₀ l : List ℕ} {i : ℕ} → Made f l₀ l i → length l₀ ≤ i → l ≡ map f (range 0 (length l₀))
+made_last f {l₀} {l} {i} m past =
+    sym (read_all l 0)
+    ∙ ap (λ (k : ℕ). map (λ (c : ℕ). get_or l c 0) (range 0 k)) m.long
+    ∙ map_range (λ (c : ℕ). get_or l c 0) f 0 (length l₀) (λ c _ h. m.done c (omega arith) (omega arith))
 
 -- ---- the rounds of cells, place by place
 
@@ -71,20 +52,19 @@ rounds_at ps n c d h = let e : 0 + c ≡ c = omega arith in rw e at (range_made 
 abbrev pub given : ℕ → List ℕ → List ℕ → ℕ → ℕ
 given round p opened_in c = round_after round (shows p c) (get_or opened_in c 0)
 
--- the code's loops: no cell has a round, and each cell is given one
-pub none_made : {l₀ l : List ℕ} {i : ℕ} → Made (round_of []) l₀ l i → length l₀ ≤ i → l ≡ rounds_of [] (length l₀)
+-- before any position no cell has a round
+pub rounds_none : (n : ℕ) → rounds_of [] n ≡ replicate n 65535
 unfolding rounds_of
-none_made m past = made_last (round_of []) m past
+rounds_none n = go 0 n
+  where
+    go : (a k : ℕ) → map (round_of []) (range a k) ≡ replicate k 65535
+    go a zero = refl
+    go a (suc k) = ap (λ (l : List ℕ). 65535 ∷ l) (go (suc a) k)
 
-module _ (round : ℕ) (p l₀ : List ℕ) {l : List ℕ} {c : ℕ} (m : Made (given round p l₀) l₀ l c) where
-  pub given_here : length l₀ ≡ length p → c < length p → (v : ℕ) → v ≡ round_after round (cell_of p c) (get_or l c 0) → Made (given round p l₀) l₀ (set l c v) (c + 1)
-  given_here same on v is =
-      let shown : shows p c ≡ cell_of p c = get_d_any p c 255 0 on in
-      made_next (given round p l₀) m (omega (arith, m.long)) v (is ∙ rw (shown, m.rest c (omega arith)))
-
-  pub all_given : length l₀ ≤ c → l ≡ round_given round p l₀
-  unfolding round_given
-  all_given past = made_last (given round p l₀) m past
+-- the code's loop: each cell is given a round
+pub all_given : (round : ℕ) (p l₀ : List ℕ) {l : List ℕ} {c : ℕ} → Made (given round p l₀) l₀ l c → length l₀ ≤ c → l ≡ round_given round p l₀
+unfolding round_given
+all_given round p l₀ m past = made_last (given round p l₀) m past
 
 -- ---- one position more
 

@@ -2,7 +2,7 @@
 // the flood that opened it, and keeps it. specs/GivenRounds.antt says what a round given is; that the numbers are the rounds of SPECIFICATION 9.6 is a law.
 #![tactic(auto)]
 
-ghost use Rattle.std.specs.Prelude.{◌≡◌, true, [], ◌*◌, ◌≤◌, ltb, length, take};
+ghost use Rattle.std.specs.Prelude.{◌≡◌, true, [], ◌*◌, ltb, length};
 ghost use Rattle.lists.specs.Lists.{all};
 ghost use Rattle.grid.specs.Window.{neighbours, Board};
 ghost use Rattle.fitting.specs.Boards.{Accepted};
@@ -19,21 +19,18 @@ pub const NO_ROUND: u16 = 65535;
 pub fn no_rounds(opened_in: &mut [u16])
     ensures { opened_in.new ≡ rounds_of [] (length opened_in.old) }
 {
-    for c in 0..opened_in.len() {
-        opened_in[c] = NO_ROUND;
-    }
+    opened_in.fill(NO_ROUND);
 }
 
 // The round of a cell that shows this, after a flood in this round: one that is open and has none gets it.
 fn round_after(shown: u8, kept: u16, round: u16) -> u16
     ensures { result ≡ round_after round shown kept }
 {
-    if shown <= 8 {
-        if kept == NO_ROUND {
-            return round;
-        }
+    if shown <= 8 && kept == NO_ROUND {
+        round
+    } else {
+        kept
     }
-    kept
 }
 
 // Gives this round to each open cell that has none yet. Every number is stored anew, so that the loop has no branch.
@@ -41,8 +38,8 @@ fn give_round(position: &[u8], opened_in: &mut [u16], round: u16)
     requires { length opened_in.old ≡ length position.now }
     ensures { opened_in.new ≡ round_given round position.now opened_in.old }
 {
-    for c in 0..position.len() {
-        opened_in[c] = round_after(position[c], opened_in[c], round);
+    for (c, kept) in opened_in.iter_mut().enumerate() {
+        *kept = round_after(position[c], *kept, round);
     }
 }
 
@@ -53,18 +50,17 @@ pub fn open_in_round(
     columns: usize,
     board: &[u8],
     position: &mut [u8],
-    list: &[u16; 1024],
-    count: usize,
+    cells: &[u16],
     opened_in: &mut [u16],
     round: u16,
 )
     requires board { Board board.now rows columns × Board position.old rows columns }
     requires accepted { Accepted (neighbours edgeless rows columns) board.now }
-    requires count_bound { (count ≤ 1024) × (length list.now ≡ 1024) × (all (λ c. ltb c (rows * columns)) (take count list.now) ≡ true) }
+    requires on_board { all (λ c. ltb c (rows * columns)) cells.now ≡ true }
     requires opened_in_len { length opened_in.old ≡ rows * columns }
-    ensures position_after { position.new ≡ open_cells (neighbours edgeless rows columns) board.now position.old (take count list.now) }
+    ensures position_after { position.new ≡ open_cells (neighbours edgeless rows columns) board.now position.old cells.now }
     ensures opened_in_after { opened_in.new ≡ round_given round position.new opened_in.old }
 {
-    refresh_board(edgeless, rows, columns, board, position, list, count);
+    refresh_board(edgeless, rows, columns, board, position, cells);
     give_round(position, opened_in, round);
 }

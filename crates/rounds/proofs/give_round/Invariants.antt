@@ -1,7 +1,4 @@
-use Prim.Native.Nat.{◌-◌}
-use native.Mathlib.Omega.{arith}
-use borrow.Author.Rules.{rules}
-use Rattle.rounds.proofs.GivenRounds.{Made, made_first, given, given_here, all_given}
+use Rattle.rounds.proofs.GivenRounds.{Made, given}
 use Rattle.rounds.proofs.give_round.Given as goal
 
 abbrev pub invariant-loop-c : goal.invariant-loop-c
