@@ -2,7 +2,11 @@
 -- arrays hold. Assumes nothing.
 use Rattle.std.specs.Prelude.{◌≡◌, Bool, true, cond, ◌&&◌, ◌||◌, List, [], ℕ, ◌+◌, ◌*◌, ◌≤◌, ◌<◌, leb, ltb, length, take}
 use Rattle.lists.specs.Lists.{range, keep, all, meets}
+use Rattle.grid.specs.declared.window.Size.{Size}
+use Rattle.grid.specs.Window.{neighbours_on}
 use Rattle.blocks.specs.BlockSets.{slot_cells}
+use Rattle.sources.specs.declared.SourceList.{SourceList}
+use Rattle.sources.specs.declared.Sources.{Sources}
 use Rattle.sources.specs.Sources.{closed_beside, is_source}
 
 -- ---- the sources read
@@ -14,6 +18,14 @@ pub record Read (near : ℕ → List ℕ) (p : List ℕ) (n : ℕ) (slots list :
   pub listed : take len list ≡ keep (is_source near p) (range 0 n)
   pub few : len ≤ n
   pub beside : (c : ℕ) → c < 1024 → slot_cells slots c ≡ cond (ltb c n && is_source near p c) (closed_beside near p c) []
+
+-- the sources that a list has
+abbrev pub sources_in : SourceList → List ℕ
+sources_in l = take l.len l.cells
+
+-- so in the struct that the code fills
+abbrev pub SourcesRead : Size → List ℕ → ℕ → Sources → Type 0
+SourcesRead size p n s = Read (neighbours_on size) p n s.beside s.list.cells s.list.len
 
 -- ---- where their slots meet
 

@@ -3,87 +3,82 @@
 
 pub mod equations;
 
-ghost use Rattle.std.specs.Prelude.{◌+◌, ◌*◌, ◌<◌};
-ghost use Rattle.grid.specs.Window.{neighbours, Board, On};
-ghost use Rattle.sources.specs.Reading.{Read};
+ghost use Rattle.std.specs.Prelude.{◌≡◌, ◌+◌, ◌*◌, ◌≤◌, ◌<◌, set};
+ghost use Rattle.grid.specs.Window.{Board, On};
+ghost use Rattle.sources.specs.Reading.{sources_in, SourcesRead};
 
 use blocks::put_slots;
-use grid::window::{cell_number, neighbours_showing, shown_beside};
+use grid::window::Size;
 
-// Row by row, the sources of the whole position. Returns how many there are.
-pub fn read_sources(
-    edgeless: bool,
-    rows: usize,
-    columns: usize,
-    position: &[u8],
-    beside: &mut [u16; 8192],
-    sources: &mut [u16; 1024],
-) -> usize
-    requires board { Board position.now rows columns }
-    requires read { Read (neighbours edgeless rows columns) position.now 0 beside.old sources.old 0 }
-    ensures { Read (neighbours edgeless rows columns) position.now (rows * columns) beside.new sources.new result }
-{
-    let mut len = 0;
-    for row in 0..rows {
-        len = read_row(edgeless, rows, columns, position, row, beside, sources, len);
-    }
-    len
+// Sources in an array: the first `len`.
+#[derive(Drop)]
+pub struct SourceList {
+    pub cells: [u16; 1024],
+    pub len: usize,
 }
 
-// The sources of one row go to the end of the list.
-fn read_row(
-    edgeless: bool,
-    rows: usize,
-    columns: usize,
-    position: &[u8],
-    row: usize,
-    beside: &mut [u16; 8192],
-    sources: &mut [u16; 1024],
-    before: usize,
-) -> usize
-    requires board { Board position.now rows columns }
-    requires row_lt_rows { row < rows }
-    requires read { Read (neighbours edgeless rows columns) position.now (row * columns) beside.old sources.old before }
-    ensures { Read (neighbours edgeless rows columns) position.now ((row + 1) * columns) beside.new sources.new result }
-{
-    let mut len = before;
-    for column in 0..columns {
-        len = read_cell(
-            edgeless, rows, columns, position, row, column, beside, sources, len,
-        );
+impl SourceList {
+    // Puts a source behind the others.
+    pub fn push(&mut self, cell: u16)
+        requires { self.old.len < 1024 }
+        ensures { self.new ≡ record { cells = set self.old.cells self.old.len cell; len = self.old.len + 1 } }
+    {
+        self.cells[self.len] = cell;
+        self.len += 1;
     }
-    len
+
+    // The sources alone, as a slice.
+    pub fn as_slice(&self) -> &[u16]
+        requires { self.now.len ≤ 1024 }
+        ensures { result.now ≡ sources_in self.now }
+    {
+        &self.cells[..self.len]
+    }
 }
 
-// A cell goes to the end of the list if it is a source.
-fn read_cell(
-    edgeless: bool,
-    rows: usize,
-    columns: usize,
-    position: &[u8],
-    row: usize,
-    column: usize,
-    beside: &mut [u16; 8192],
-    sources: &mut [u16; 1024],
-    len: usize,
-) -> usize
-    requires board { Board position.now rows columns }
-    requires on { On rows columns row column }
-    requires read { Read (neighbours edgeless rows columns) position.now (row * columns + column) beside.old sources.old len }
-    ensures { Read (neighbours edgeless rows columns) position.now (row * columns + column + 1) beside.new sources.new result }
-{
-    let c = cell_number(rows, columns, row, column);
-    if 8 < position[c] {
-        return len;
+// The sources of a position, and for each cell the eight slots of the closed neighbours that it has as a source.
+#[derive(Drop)]
+pub struct Sources {
+    pub beside: [u16; 8192],
+    pub list: SourceList,
+}
+
+impl Sources {
+    // Row by row, the sources of the whole position.
+    pub fn read(&mut self, size: Size, position: &[u8])
+        requires board { Board position.now size.rows size.columns }
+        requires read { SourcesRead size position.now 0 self.old }
+        ensures { SourcesRead size position.now (size.rows * size.columns) self.new }
+    {
+        for row in 0..size.rows {
+            self.read_row(size, position, row);
+        }
     }
-    if !shown_beside(edgeless, rows, columns, position, row, column, 10) {
-        return len;
+
+    // The sources of one row go to the end of the list.
+    fn read_row(&mut self, size: Size, position: &[u8], row: usize)
+        requires board { Board position.now size.rows size.columns }
+        requires row_lt_rows { row < size.rows }
+        requires read { SourcesRead size position.now (row * size.columns) self.old }
+        ensures { SourcesRead size position.now ((row + 1) * size.columns) self.new }
+    {
+        for column in 0..size.columns {
+            self.read_cell(size, position, row, column);
+        }
     }
-    put_slots(
-        beside,
-        c,
-        neighbours_showing(edgeless, rows, columns, position, row, column, 10),
-    );
-    sources[len] = c as u16;
-    len + 1
+
+    // A cell goes to the end of the list if it is a source.
+    fn read_cell(&mut self, size: Size, position: &[u8], row: usize, column: usize)
+        requires board { Board position.now size.rows size.columns }
+        requires on { On size.rows size.columns row column }
+        requires read { SourcesRead size position.now (row * size.columns + column) self.old }
+        ensures { SourcesRead size position.now (row * size.columns + column + 1) self.new }
+    {
+        let c = size.cell_number(row, column);
+        if position[c] <= 8 && size.shown_beside(position, row, column, 10) {
+            let closed = size.neighbours_showing(position, row, column, 10);
+            put_slots(&mut self.beside, c, closed);
+            self.list.push(c as u16);
+        }
+    }
 }

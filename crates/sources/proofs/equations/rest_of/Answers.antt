@@ -2,12 +2,8 @@
 -- mines, so that the difference does not go below 0. Rests on the laws of `Remainders`. Assumes nothing.
 use mathlib.Core.Path.{◌∙◌}
 use native.Mathlib.Omega.{arith}
-use Rattle.grid.proofs.Places.{place_on}
 use Rattle.sources.proofs.Remainders.{counted_few, shown, rest_known}
 use Rattle.sources.proofs.equations.rest_of.Goals as goal
-
-pub count_beside-known-requires : goal.count_beside-known-requires
-count_beside-known-requires c = record { board = c.requires.board; on = place_on _ _ _ c.requires.c_bound.0 }
 
 pub overflow_cast-known : goal.overflow_cast-known
 overflow_cast-known c = omega (arith, counted_few _ _ _ c.requires.c_bound.0 c.args.position.now c.requires.board.whole _ _ _ c.count_beside-known.ensures)
