@@ -2,10 +2,10 @@
 -- from its first source; those left and those found are one more than at first together, so as many steps as were left less h are enough, and that is the
 -- measure. Rests on the laws of `Growing`. Assumes nothing.
 use Prim.Native.Nat.{suc, ◌+◌, ◌-◌, ◌≤◌}
-use mathlib.Core.Path.{◌≡◌, refl, ◌∙◌}
+use mathlib.Core.Path.{◌≡◌, ◌∙◌}
 use native.Mathlib.Omega.{arith}
 use lib.ListN.{length}
-use Rattle.growth.proofs.Growing.{grow_begins, grow_turn, grow_ends, found_begins, found_on}
+use Rattle.growth.proofs.Growing.{grow_turn, grow_ends}
 use Rattle.growth.proofs.grow_block.Goals as goal
 
 pub loop-h-preserved : goal.loop-h-preserved

@@ -1,14 +1,11 @@
 -- `growth::take_sharing` meets its contract. The loop's invariant: the scan has come down to place t, so the sources left are the first t as they
 -- were and then what `removed` leaves of the others, and those of the others that share a closed cell with c are found, from the last to the first; none is
 -- lost. The measure is t. Rests on the laws of `Removals` and of `Marks`. Assumes nothing.
-use Prim.Native.Nat.{◌+◌, ◌≤◌, ◌<◌}
-use mathlib.Core.Bool.{Bool}
+use Prim.Native.Nat.{◌<◌}
 use mathlib.Core.Path.{◌≡◌, refl, sym, ◌∙◌}
 use native.Mathlib.Omega.{arith}
-use Rattle.blocks.proofs.Between.{listed_below}
-use Rattle.sources.specs.Reading.{slots_meet}
 use Rattle.growth.proofs.Marks.{marks_tell, far_apart}
-use Rattle.growth.proofs.Removals.{scan_begins, scan_cells, scan_on, scan_pass, scan_take, scan_ends}
+use Rattle.growth.proofs.Removals.{scan_cells, scan_on, scan_pass, scan_take, scan_ends}
 use Rattle.growth.proofs.take_sharing.Goals as goal
 use Rattle.growth.proofs.take_sharing.Goals.{After-wide-d, else-near_enough-via-then-near_enough+else-meets_marks, else-near_enough-via-else-near_enough}
 
