@@ -1,6 +1,7 @@
 -- The laws of 3BV on a board with rows and columns, whose window is mutual and lists cells of the board: the code's two counts make the 3BV (`counted_bbbv`), which
 -- is the number of connected groups of zeros and of lone cells (`board_bbbv`); the two forms of the call's answer, and that a number it tells is the 3BV
 -- (`answer_counts`). Rests on Flooded and ConnectedZeros. Assumes nothing.
+use Rattle.std.specs.Prelude.{Ok, Err}
 use mathlib.Core.Path.{◌≡◌, refl, ◌∙◌}
 use mathlib.Core.Bool.{Bool, true}
 use mathlib.Core.List.{List}
@@ -14,8 +15,6 @@ use Rattle.grid.specs.Window.{neighbours, Board}
 use Rattle.grid.proofs.Places.{few_cells}
 use Rattle.grid.proofs.Neighbours.{neighbours_on, neighbours_mutual, neighbours_few}
 use Rattle.refusals.specs.declared.Refusal.{Refusal}
-use Rattle.refusals.specs.declared.Tested.{Tested}
-use Rattle.refusals.specs.declared.Tested.TheVariants as tests
 use Rattle.refusals.specs.Tests.{bbbv_tested}
 use Rattle.refusals.proofs.Accepted.{accepted_bbbv}
 use Rattle.refusals.proofs.Admitted.{bbbv_accepted}
@@ -27,6 +26,7 @@ use Rattle.bbbv.specs.Flooded.{flooded, is_closed_safe, closed_safe}
 use Rattle.bbbv.specs.Answer.{cal_bbbv}
 use Rattle.bbbv.proofs.Flooded.{closed_lone}
 use Rattle.bbbv.proofs.ConnectedZeros.{bbbv_counts}
+use Rattle.refusals.specs.Refusals.{Tested}
 
 -- neither count is above the number of cells
 pub counts_small : (near : ℕ → List ℕ) (b p : List ℕ) {rows columns m n : ℕ} → Board b rows columns → m ≡ openings near b → n ≡ closed_safe b p → m + n ≤ 2048
@@ -54,11 +54,11 @@ module _ (edgeless : Bool) (rows columns : ℕ) (b : List ℕ) (board : Board b 
   board_bbbv = bbbv_counts (neighbours edgeless rows columns) b ok few both_ways
 
 module _ (edgeless : Bool) (rows columns : ℕ) (b : List ℕ) where
-  pub refused_answer_lem : {r : Refusal} → bbbv_tested edgeless rows columns b ≡ tests.Refused r → Refused r ≡ cal_bbbv edgeless rows columns b
+  pub refused_answer_lem : {r : Refusal} → bbbv_tested edgeless rows columns b ≡ Err r → Refused r ≡ cal_bbbv edgeless rows columns b
   unfolding cal_bbbv
   refused_answer_lem h = rw h
 
-  pub counted_answer : {n : ℕ} → bbbv_tested edgeless rows columns b ≡ tests.Accepted → n ≡ bbbv (neighbours edgeless rows columns) b → Counted n ≡ cal_bbbv edgeless rows columns b
+  pub counted_answer : {n : ℕ} → bbbv_tested edgeless rows columns b ≡ Ok tt → n ≡ bbbv (neighbours edgeless rows columns) b → Counted n ≡ cal_bbbv edgeless rows columns b
   unfolding cal_bbbv
   counted_answer h e = rw (h, e)
 
@@ -67,8 +67,8 @@ module _ (edgeless : Bool) (rows columns : ℕ) (b : List ℕ) where
   answer_counts n e = go (bbbv_tested edgeless rows columns b) refl
     where
       go : (t : Tested) → bbbv_tested edgeless rows columns b ≡ t → IsBbbv (neighbours edgeless rows columns) b n
-      go (tests.Refused r) h = let both : Refused r ≡ Counted n = refused_answer_lem h ∙ e in let z : ◌≡◌ {A = ℕ} 0 1 = cc in absurd (omega arith)
-      go tests.Accepted h =
+      go (Err r) h = let both : Refused r ≡ Counted n = refused_answer_lem h ∙ e in let z : ◌≡◌ {A = ℕ} 0 1 = cc in absurd (omega arith)
+      go (Ok _) h =
           let same : Counted (bbbv (neighbours edgeless rows columns) b) ≡ Counted n = counted_answer h refl ∙ e in
           let is : bbbv (neighbours edgeless rows columns) b ≡ n = cc in
           rw is at (board_bbbv edgeless rows columns b (accepted_bbbv edgeless rows columns b h).board (bbbv_accepted edgeless rows columns b h))

@@ -1,9 +1,7 @@
 -- The answer of the 3BV call: refusals 1, 2, 3 and 5 of SPECIFICATION 3.1, else the number. Assumes nothing.
-use Rattle.std.specs.Prelude.{Bool, List, [], ◌∷◌, ℕ}
+use Rattle.std.specs.Prelude.{Bool, List, [], ◌∷◌, ℕ, Ok, Err}
 use Rattle.grid.specs.Window.{neighbours}
-use Rattle.refusals.specs.declared.Tested.{Tested}
-use Rattle.refusals.specs.declared.Tested.TheVariants as tests
-use Rattle.refusals.specs.Refusals.{refusal_number}
+use Rattle.refusals.specs.Refusals.{Tested, refusal_number}
 use Rattle.refusals.specs.Tests.{bbbv_tested}
 use Rattle.bbbv.specs.declared.BbbvAnswer.{BbbvAnswer}
 use Rattle.bbbv.specs.declared.BbbvAnswer.TheVariants.{Refused, Counted}
@@ -11,8 +9,8 @@ use Rattle.bbbv.specs.Openings.{bbbv}
 
 -- what the call answers once its tests have
 abbrev pub bbbv_after_tests : Tested → ℕ → BbbvAnswer
-bbbv_after_tests tests.Accepted n = Counted n
-bbbv_after_tests (tests.Refused r) n = Refused r
+bbbv_after_tests (Ok _) n = Counted n
+bbbv_after_tests (Err r) n = Refused r
 
 -- what cal_bbbv answers
 unfoldable pub cal_bbbv : Bool → ℕ → ℕ → List ℕ → BbbvAnswer

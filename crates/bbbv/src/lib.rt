@@ -11,7 +11,7 @@ ghost use Rattle.bbbv.specs.Flooded.{flooded, closed_safe};
 ghost use Rattle.bbbv.specs.Answer.{cal_bbbv};
 
 use flood::refresh_board;
-use refusals::{Refusal, Tested, test_bbbv};
+use refusals::{Refusal, test_bbbv};
 
 // What the 3BV call answers.
 #[derive(Clone, Copy)]
@@ -99,7 +99,7 @@ pub fn cal_bbbv(edgeless: bool, rows: usize, columns: usize, cells: &[u8]) -> Bb
 {
     let tested = test_bbbv(edgeless, rows, columns, cells);
     match tested {
-        Tested::Refused(refusal) => BbbvAnswer::Refused(refusal),
-        Tested::Accepted => BbbvAnswer::Counted(count_bbbv(edgeless, rows, columns, cells)),
+        Err(refusal) => BbbvAnswer::Refused(refusal),
+        Ok(()) => BbbvAnswer::Counted(count_bbbv(edgeless, rows, columns, cells)),
     }
 }

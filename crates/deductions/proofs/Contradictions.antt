@@ -2,6 +2,7 @@
 -- with a closed neighbour shows fewer than the mines known and found beside it, and solve_enumerate exactly where these pass and no mines on the closed
 -- cells give each such cell its number; solve_minus only there. Rests on FromPosition of the crate direct, on NoSolution of the crate enumeration, and on the
 -- laws that the two first rules meet no contradiction where something solves the equations. Assumes nothing.
+use Rattle.std.specs.Prelude.{Err, Ok}
 use mathlib.Core.Path.{◌≡◌, refl, sym, ap, ◌∙◌}
 use mathlib.Core.Logic.{inl, inr, ◌↔◌}
 use mathlib.Core.Bool.{Bool, true, false, ◌&&◌}
@@ -18,9 +19,7 @@ use Rattle.grid.specs.Cells.{shows}
 use Rattle.grid.specs.Window.{flat, around, neighbours}
 use Rattle.grid.proofs.Neighbours.{neighbours_nodup, neighbours_few}
 use Rattle.refusals.specs.declared.Refusal.TheVariants.{Size, Length, Cell}
-use Rattle.refusals.specs.declared.Tested.{Tested}
-use Rattle.refusals.specs.declared.Tested.TheVariants.{Accepted, Refused}
-use Rattle.refusals.specs.Refusals.{tested_number, test, tested}
+use Rattle.refusals.specs.Refusals.{Accepted, Tested, tested_number, test, tested}
 use Rattle.refusals.specs.Tests.{size_ok, length_ok, room_ok, position_cells_ok, deduction_tested}
 use Rattle.refusals.proofs.FirstFailure.{not_both}
 use Rattle.fitting.specs.Layouts.{Fits}
@@ -76,8 +75,8 @@ module _ (f : Found) (p s m : List ℕ) (r : DeductionAnswer) (p' s' m' : List �
   six_from_rule : (t : Tested) → (tested_number t ≡ 6 → ⊥) → seen r p' s' m' ≡ deduction_after_tests t f p s m → tested_number r.tested ≡ 6
       → (t ≡ Accepted) × (f.contradiction ≡ true)
   unfolding refused_answer
-  six_from_rule (Refused x) never e a = absurd (never (sym (ap number_of e) ∙ a))
-  six_from_rule Accepted never e a = (refl, go (decided f.contradiction))
+  six_from_rule (Err x) never e a = absurd (never (sym (ap number_of e) ∙ a))
+  six_from_rule (Ok _) never e a = (refl, go (decided f.contradiction))
     where
       go : Decided f.contradiction → f.contradiction ≡ true
       go (inl k) = k
@@ -86,8 +85,8 @@ module _ (f : Found) (p s m : List ℕ) (r : DeductionAnswer) (p' s' m' : List �
   -- and the rule's is the call's, where they accept
   six_from_call : (t : Tested) → seen r p' s' m' ≡ deduction_after_tests t f p s m → t ≡ Accepted → f.contradiction ≡ true → tested_number r.tested ≡ 6
   unfolding refused_answer
-  six_from_call (Refused x) e a k = not_both (Refused x) x a refl
-  six_from_call Accepted e a k = ap number_of (e ∙ after_contradiction f p s m k)
+  six_from_call (Err x) e a k = not_both (Err x) x a refl
+  six_from_call (Ok _) e a k = ap number_of (e ∙ after_contradiction f p s m k)
 
 -- so where a rule meets a contradiction only in a case, its call refuses with 6 only there
 module _ (rule : List Block → Found) (case : Type 0) (edgeless : Bool) (rows columns : ℕ) (p s m : List ℕ) (r : DeductionAnswer) (p' s' m' : List ℕ)

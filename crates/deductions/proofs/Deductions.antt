@@ -1,6 +1,7 @@
 -- A rule called on a position, step by step. A refusal by the tests ends the call. Else the frontier is read, which is fit for the rule; what the rule lists are
 -- cells of the frontier, so on the board, and at most as many as it has cells, so that the lent slices have room; and what the caller then sees is the
 -- definition's. Said once for the three rules. Rests on Handed, on ReadFrontier of the crate frontier and on the laws that each rule is sound at a position. Assumes nothing.
+use Rattle.std.specs.Prelude.{Err}
 use mathlib.Core.Path.{◌≡◌, ap, ◌∙◌}
 use mathlib.Core.Bool.{Bool}
 use mathlib.Core.List.{List}
@@ -11,7 +12,6 @@ use Rattle.grid.specs.Window.{neighbours}
 use Rattle.grid.proofs.Places.{few_cells}
 use Rattle.grid.proofs.Neighbours.{neighbours_nodup, neighbours_few}
 use Rattle.refusals.specs.declared.Refusal.{Refusal}
-use Rattle.refusals.specs.declared.Tested.TheVariants.{Accepted, Refused}
 use Rattle.refusals.specs.Tests.{deduction_tested}
 use Rattle.refusals.proofs.Accepted.{AcceptedDeduction, accepted_deduction}
 use Rattle.blocks.specs.Blocks.{Block}
@@ -30,6 +30,7 @@ use Rattle.deductions.specs.declared.Rule.{Rule}
 use Rattle.deductions.specs.declared.Rule.TheVariants.{Direct, Minus, Enumerate}
 use Rattle.deductions.specs.declared.answer.DeductionAnswer.{DeductionAnswer}
 use Rattle.deductions.proofs.Handed.{same_seen, struct_found, struct_held}
+use Rattle.refusals.specs.Refusals.{Accepted}
 
 -- ---- each rule is sound on a board
 
@@ -42,7 +43,7 @@ sound_on Enumerate edgeless rows columns p = enumeration_sound_at (neighbours ed
 
 module _ (rule : Rule) (edgeless : Bool) (rows columns : ℕ) (p s m : List ℕ) where
   -- the tests refuse, and the answer is their refusal
-  pub tests_refuse : (x : Refusal) → deduction_tested rows columns p (length s) (length m) ≡ Refused x → (r : DeductionAnswer) → r ≡ refused_answer x
+  pub tests_refuse : (x : Refusal) → deduction_tested rows columns p (length s) (length m) ≡ Err x → (r : DeductionAnswer) → r ≡ refused_answer x
       → seen r p s m ≡ deduction (rule_on rule) edgeless rows columns p s m
   tests_refuse x h r is = rw (is, h)
 

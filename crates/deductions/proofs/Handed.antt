@@ -1,6 +1,7 @@
 -- A rule's answer handed on, from the definition's lists to the struct and from the struct to the caller. The struct of what a rule found holds its lists; where
 -- its block set is whole, its blocks make the same struct again, and a caller sees of blocks only that. So what the caller sees is what the rule found.
 -- Assumes nothing.
+use Rattle.std.specs.Prelude.{Err}
 use mathlib.Core.Path.{◌≡◌, sym, ap, ◌∙◌}
 use mathlib.Core.Logic.{inl, inr}
 use mathlib.Core.Bool.{true, false}
@@ -13,8 +14,6 @@ use Rattle.lists.specs.Lists.{all}
 use Rattle.lists.proofs.Tests.{Decided, decided}
 use Rattle.lists.proofs.Arrays.{pad_take}
 use Rattle.refusals.specs.declared.Refusal.TheVariants.{Contradiction}
-use Rattle.refusals.specs.declared.Tested.{Tested}
-use Rattle.refusals.specs.declared.Tested.TheVariants.{Accepted, Refused}
 use Rattle.blocks.specs.BlockSets.{block_set, Small, Whole}
 use Rattle.blocks.specs.declared.BlockSet.{BlockSet}
 use Rattle.blocks.proofs.Reading.{blocks_of_set}
@@ -27,6 +26,7 @@ use Rattle.direct.specs.Answers.{rule_answer, found_in}
 use Rattle.direct.specs.declared.answer.RuleAnswer.{RuleAnswer}
 use Rattle.deductions.specs.Answers.{Held, Seen, seen, told_by, refused_answer, refused, after_found}
 use Rattle.deductions.specs.declared.answer.DeductionAnswer.{DeductionAnswer}
+use Rattle.refusals.specs.Refusals.{Accepted, Tested}
 
 -- ---- what a caller sees of a rule's answer
 
@@ -129,12 +129,12 @@ module _ {r : RuleAnswer} {n s m : ℕ} (h : Held r n s m) where
 
   -- a contradiction is handed on by its name: its lists are empty, so that nothing is stored or written
   gives_contradiction : (p s' m' : List ℕ) → r.contradiction ≡ true
-      → seen (record { tested = Refused Contradiction; safe = r.safe.count; mines = r.mines.count; blocks = r.left })
+      → seen (record { tested = Err Contradiction; safe = r.safe.count; mines = r.mines.count; blocks = r.left })
       (written 11 (found_in r).mines (written 12 (found_in r).safe p)) (sets s' 0 (found_in r).safe) (sets m' 0 (found_in r).mines)
       ≡ after_found (found_in r) p s' m'
   unfolding found_in rule_answer refused_answer
   gives_contradiction p s' m' e =
-      let shown : RuleAnswer → Seen = λ x. seen (record { tested = Refused Contradiction; safe = x.safe.count; mines = x.mines.count; blocks = x.left })
+      let shown : RuleAnswer → Seen = λ x. seen (record { tested = Err Contradiction; safe = x.safe.count; mines = x.mines.count; blocks = x.left })
       (written 11 (found_in x).mines (written 12 (found_in x).safe p)) (sets s' 0 (found_in x).safe) (sets m' 0 (found_in x).mines) in
       ap shown (h.alone e)
       ∙ ap (λ (q : List ℕ). seen (refused_answer Contradiction) q s' m') (written_none 11 (written 12 [] p) ∙ written_none 12 p)

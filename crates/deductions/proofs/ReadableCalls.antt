@@ -1,5 +1,6 @@
 -- What a caller of a rule can read of the answer, from the definition alone, whatever was asked: the counts are within the lists, and the block set is whole.
 -- A refusal has no cells and no blocks. Rests on Handed, Deductions, and LeftFits of the crates rules and subtraction. Assumes nothing.
+use Rattle.std.specs.Prelude.{Err, Ok}
 use mathlib.Core.Path.{◌≡◌, refl}
 use mathlib.Core.Logic.{inl, inr}
 use mathlib.Core.Bool.{Bool, true, false, cond}
@@ -13,8 +14,6 @@ use Rattle.lists.proofs.Tests.{Decided, decided}
 use Rattle.grid.specs.Window.{neighbours}
 use Rattle.refusals.specs.declared.Refusal.{Refusal}
 use Rattle.refusals.specs.declared.Refusal.TheVariants.{Contradiction}
-use Rattle.refusals.specs.declared.Tested.{Tested}
-use Rattle.refusals.specs.declared.Tested.TheVariants.{Accepted, Refused}
 use Rattle.refusals.specs.Tests.{deduction_tested}
 use Rattle.refusals.proofs.Accepted.{AcceptedDeduction, accepted_deduction}
 use Rattle.blocks.specs.Blocks.{Block}
@@ -33,6 +32,7 @@ use Rattle.deductions.specs.declared.Rule.{Rule}
 use Rattle.deductions.specs.declared.Rule.TheVariants.{Direct, Minus, Enumerate}
 use Rattle.deductions.proofs.Handed.{after_contradiction, after_lists}
 use Rattle.deductions.proofs.Deductions.{sound_on}
+use Rattle.refusals.specs.Refusals.{Accepted, Tested}
 
 -- of a refusal
 refused_readable : (x : Refusal) (p s m : List ℕ) → Readable (refused x p s m)
@@ -95,5 +95,5 @@ module _ (rule : Rule) (edgeless : Bool) (rows columns : ℕ) (p s m : List ℕ)
           (left_fits rule (frontier near p) (frontier_fits edgeless rows columns p a.position.board))
 
       go : (t : Tested) → deduction_tested rows columns p (length s) (length m) ≡ t → Readable (deduction_after_tests t finds p s m)
-      go Accepted e = accepted_readable (accepted_deduction rows columns p (length s) (length m) e)
-      go (Refused x) e = refused_readable x p s m
+      go (Ok _) e = accepted_readable (accepted_deduction rows columns p (length s) (length m) e)
+      go (Err x) e = refused_readable x p s m

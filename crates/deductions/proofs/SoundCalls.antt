@@ -1,6 +1,7 @@
 -- What specs/Calls.antt says of a call of any rule, from the equation that the call ensures. An accepted call hands on the lists of a rule that is sound at
 -- the position: they are what stands at the front of the slices, and of what is marked. A refused call keeps all. And solve_enumerate is complete, since
 -- enumeration is. Rests on Deductions, Soundness of the crate direct, Completeness of the crate enumeration and the laws of what is written. Assumes nothing.
+use Rattle.std.specs.Prelude.{Err, Ok}
 use mathlib.Core.Path.{◌≡◌, refl, sym, ap, ◌∙◌}
 use mathlib.Core.Logic.{inl, inr, ◌≢◌}
 use mathlib.Core.Bool.{Bool, true, false}
@@ -19,9 +20,7 @@ use Rattle.grid.specs.Window.{neighbours}
 use Rattle.grid.proofs.Neighbours.{neighbours_nodup, neighbours_few}
 use Rattle.refusals.specs.declared.Refusal.{Refusal}
 use Rattle.refusals.specs.declared.Refusal.TheVariants.{Contradiction}
-use Rattle.refusals.specs.declared.Tested.{Tested}
-use Rattle.refusals.specs.declared.Tested.TheVariants.{Accepted, Refused}
-use Rattle.refusals.specs.Refusals.{tested_number}
+use Rattle.refusals.specs.Refusals.{Accepted, Tested, tested_number}
 use Rattle.refusals.specs.Tests.{deduction_tested}
 use Rattle.refusals.proofs.FirstFailure.{not_both}
 use Rattle.refusals.proofs.RefusalNumbers.{zero_accepted, else_refused}
@@ -114,8 +113,8 @@ module _ (f : Found) (p s m : List ℕ) (r : DeductionAnswer) (p' s' m' : List �
   -- it is accepted only where the tests accept and the rule meets no contradiction
   gave : (t : Tested) → seen r p' s' m' ≡ deduction_after_tests t f p s m → r.tested ≡ Accepted → (t ≡ Accepted) × Gave f p s m r p' s' m'
   unfolding refused_answer
-  gave (Refused x) e a = not_both r.tested x a (ap (λ (v : Seen). v.answer.tested) e)
-  gave Accepted e a = (refl, go (decided f.contradiction))
+  gave (Err x) e a = not_both r.tested x a (ap (λ (v : Seen). v.answer.tested) e)
+  gave (Ok _) e a = (refl, go (decided f.contradiction))
     where
       go : Decided f.contradiction → Gave f p s m r p' s' m'
       go (inl k) = not_both r.tested Contradiction a (ap (λ (v : Seen). v.answer.tested) (e ∙ after_contradiction f p s m k))
@@ -131,18 +130,18 @@ module _ (f : Found) (p s m : List ℕ) (r : DeductionAnswer) (p' s' m' : List �
           }
 
   -- a refusal is its name alone, whoever gives it, and the slices are as they were
-  pub refused_alone : (t : Tested) → seen r p' s' m' ≡ deduction_after_tests t f p s m → (x : Refusal) → r.tested ≡ Refused x → seen r p' s' m' ≡ refused x p s m
+  pub refused_alone : (t : Tested) → seen r p' s' m' ≡ deduction_after_tests t f p s m → (x : Refusal) → r.tested ≡ Err x → seen r p' s' m' ≡ refused x p s m
   unfolding refused_answer
-  refused_alone (Refused y) e x a =
-      let same : Refused x ≡ Refused y = sym a ∙ ap (λ (v : Seen). v.answer.tested) e in
+  refused_alone (Err y) e x a =
+      let same : Err x ≡ Err y = sym a ∙ ap (λ (v : Seen). v.answer.tested) e in
       let is : y ≡ x = cc in
       rw is at e
-  refused_alone Accepted e x a = go (decided f.contradiction)
+  refused_alone (Ok _) e x a = go (decided f.contradiction)
     where
       go : Decided f.contradiction → seen r p' s' m' ≡ refused x p s m
       go (inl k) =
           let told = e ∙ after_contradiction f p s m k in
-          let same : Refused x ≡ Refused Contradiction = sym a ∙ ap (λ (v : Seen). v.answer.tested) told in
+          let same : Err x ≡ Err Contradiction = sym a ∙ ap (λ (v : Seen). v.answer.tested) told in
           let is : Contradiction ≡ x = cc in
           rw is at told
       go (inr k) = not_both r.tested x (ap (λ (v : Seen). v.answer.tested) (e ∙ after_lists f p s m k)) a
@@ -159,15 +158,15 @@ module _ (f : Found) (p s m : List ℕ) (r : DeductionAnswer) (p' s' m' : List �
       }
 
   -- the tests' refusal is the call's
-  refused_by_tests : (t : Tested) → seen r p' s' m' ≡ deduction_after_tests t f p s m → (x : Refusal) → t ≡ Refused x → r.tested ≡ Refused x
+  refused_by_tests : (t : Tested) → seen r p' s' m' ≡ deduction_after_tests t f p s m → (x : Refusal) → t ≡ Err x → r.tested ≡ Err x
   unfolding refused_answer
-  refused_by_tests (Refused y) e x a = ap (λ (v : Seen). v.answer.tested) e ∙ a
-  refused_by_tests Accepted e x a = not_both Accepted x refl a
+  refused_by_tests (Err y) e x a = ap (λ (v : Seen). v.answer.tested) e ∙ a
+  refused_by_tests (Ok _) e x a = not_both Accepted x refl a
 
   -- and it is accepted where the tests accept and the rule meets no contradiction
   accepted : (t : Tested) → seen r p' s' m' ≡ deduction_after_tests t f p s m → t ≡ Accepted → f.contradiction ≡ false → r.tested ≡ Accepted
-  accepted (Refused x) e a k = not_both (Refused x) x a refl
-  accepted Accepted e a k = ap (λ (v : Seen). v.answer.tested) (e ∙ after_lists f p s m k)
+  accepted (Err x) e a k = not_both (Err x) x a refl
+  accepted (Ok _) e a k = ap (λ (v : Seen). v.answer.tested) (e ∙ after_lists f p s m k)
 
 -- ---- an accepted call of a rule that is sound
 

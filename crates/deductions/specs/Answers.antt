@@ -1,11 +1,9 @@
 -- The calls on a position (SPECIFICATION 4.3 and 8): what a caller sees of a rule's answer, refusals first, and the three calls. Assumes nothing.
-use Rattle.std.specs.Prelude.{◌≡◌, Bool, true, cond, List, [], ℕ, ◌≤◌, length}
+use Rattle.std.specs.Prelude.{Err, ◌≡◌, Bool, true, cond, List, [], ℕ, ◌≤◌, length, Ok}
 use Rattle.std.proofs.lemmas.List.Edits.{sets}
 use Rattle.grid.specs.Window.{neighbours}
 use Rattle.refusals.specs.declared.Refusal.{Refusal}
 use Rattle.refusals.specs.declared.Refusal.TheVariants.{Contradiction}
-use Rattle.refusals.specs.declared.Tested.{Tested}
-use Rattle.refusals.specs.declared.Tested.TheVariants.{Accepted, Refused}
 use Rattle.refusals.specs.Tests.{deduction_tested}
 use Rattle.blocks.specs.Blocks.{Block}
 use Rattle.blocks.specs.BlockSets.{block_set}
@@ -19,6 +17,7 @@ use Rattle.direct.specs.Answers.{rule_answer, found_in}
 use Rattle.subtraction.specs.Minus.{subtraction}
 use Rattle.enumeration.specs.Enumeration.{enumerated}
 use Rattle.deductions.specs.declared.answer.DeductionAnswer.{DeductionAnswer}
+use Rattle.refusals.specs.Refusals.{Accepted, Tested}
 
 -- a struct that holds lists of cells below n, which fit into slices of s and m entries, and blocks, and nothing else; a contradiction comes alone
 pub record Held (r : RuleAnswer) (n s m : ℕ) : Type 0 where
@@ -41,11 +40,11 @@ seen r p s m = record { answer = r; position = p; safe = s; mines = m }
 
 -- a contradiction is refusal 6
 abbrev pub told_by : Bool → Tested
-told_by contradiction = cond contradiction (Refused Contradiction) Accepted
+told_by contradiction = cond contradiction (Err Contradiction) Accepted
 
 -- a refusal: its name alone
 unfoldable pub refused_answer : Refusal → DeductionAnswer
-refused_answer r = record { tested = Refused r; safe = 0; mines = 0; blocks = block_set [] }
+refused_answer r = record { tested = Err r; safe = 0; mines = 0; blocks = block_set [] }
 
 -- and every slice as it was
 abbrev pub refused : Refusal → List ℕ → List ℕ → List ℕ → Seen
@@ -62,8 +61,8 @@ after_found f p s m =
 
 -- refusals 1 to 3 first
 abbrev pub deduction_after_tests : Tested → Found → List ℕ → List ℕ → List ℕ → Seen
-deduction_after_tests Accepted f p s m = after_found f p s m
-deduction_after_tests (Refused r) f p s m = refused r p s m
+deduction_after_tests (Ok _) f p s m = after_found f p s m
+deduction_after_tests (Err r) f p s m = refused r p s m
 
 -- a rule called on a position: it reads a fresh frontier
 abbrev pub deduction : (List Block → Found) → Bool → ℕ → ℕ → List ℕ → List ℕ → List ℕ → Seen

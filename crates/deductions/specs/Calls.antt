@@ -2,13 +2,12 @@
 -- cell that it lists is so in every layout that fits the position, it marks just these cells, and a refusal keeps every lent byte; enumeration, where some layout
 -- fits, lists each closed cell beside an open one that is the same in all. Throughout, p, s and m are the position and the two list slices as they were lent,
 -- p', s' and m' are these after the call, `number` is 0 or the refusal's number, and `safe` and `mines` are the counts of the two lists. Assumes nothing.
-use Rattle.std.specs.Prelude.{◌≡◌, ◌≢◌, Bool, true, false, List, ℕ, ◌≤◌, ◌<◌, length, get_or, take}
+use Rattle.std.specs.Prelude.{Err, ◌≡◌, ◌≢◌, Bool, true, false, List, ℕ, ◌≤◌, ◌<◌, length, get_or, take}
 use Rattle.lists.specs.Lists.{has, nodup}
 use Rattle.grid.specs.Cells.{shows}
 use Rattle.grid.specs.Window.{neighbours}
 use Rattle.refusals.specs.declared.Refusal.{Refusal}
-use Rattle.refusals.specs.declared.Tested.TheVariants.{Accepted, Refused}
-use Rattle.refusals.specs.Refusals.{refusal_number}
+use Rattle.refusals.specs.Refusals.{Accepted, refusal_number}
 use Rattle.refusals.specs.Tests.{deduction_tested}
 use Rattle.fitting.specs.Layouts.{Fits, Forced}
 
@@ -64,7 +63,7 @@ pub record SoundCall (edgeless : Bool) (rows columns : ℕ) (p s m : List ℕ) (
   -- a refused call leaves every buffer untouched
   pub all_kept : number ≢ 0 → AllKept p s m p' s' m'
   -- what the tests refuse is refused, with their number
-  pub refuses : (x : Refusal) → deduction_tested rows columns p (length s) (length m) ≡ Refused x → number ≡ refusal_number x
+  pub refuses : (x : Refusal) → deduction_tested rows columns p (length s) (length m) ≡ Err x → number ≡ refusal_number x
   -- where the tests pass and some layout fits, the call is accepted: no rule finds such a position contradicted
   pub accepts : deduction_tested rows columns p (length s) (length m) ≡ Accepted → (layout : List Bool) → Fits (neighbours edgeless rows columns) p layout → number ≡ 0
 

@@ -5,10 +5,10 @@
 use Rattle.std.specs.Prelude.{◌≡◌, ◌↔◌, Bool, true, List, ℕ, length}
 use Rattle.grid.specs.Cells.{shows}
 use Rattle.grid.specs.Window.{neighbours}
-use Rattle.refusals.specs.declared.Tested.TheVariants.{Accepted}
 use Rattle.refusals.specs.Tests.{deduction_tested}
 use Rattle.sources.specs.Sources.{is_source}
 use Rattle.direct.specs.AtPosition.{mines_with, is_contradictory_at}
+use Rattle.refusals.specs.Refusals.{Accepted}
 
 -- mines placed on the closed cells as f says give each open cell with a closed neighbour its number
 abbrev pub Placing : (ℕ → List ℕ) → List ℕ → (ℕ → Bool) → Type 0

@@ -8,12 +8,12 @@ use blocks::{BlockSet, empty_set};
 use direct::answer::RuleAnswer;
 use marks::listing::put_list;
 use marks::write_at_cells;
-use refusals::{Refusal, Tested};
+use refusals::Refusal;
 
 // What a call that deduces answers: the tests' answer or the contradiction, how many cells the two lists have, and the blocks left.
 #[derive(Drop)]
 pub struct DeductionAnswer {
-    pub tested: Tested,
+    pub tested: Result<(), Refusal>,
     pub safe: usize,
     pub mines: usize,
     pub blocks: BlockSet,
@@ -24,7 +24,7 @@ pub fn refused(refusal: Refusal) -> DeductionAnswer
     ensures { result ≡ refused_answer refusal }
 {
     DeductionAnswer {
-        tested: Tested::Refused(refusal),
+        tested: Err(refusal),
         safe: 0,
         mines: 0,
         blocks: empty_set(),
@@ -32,13 +32,13 @@ pub fn refused(refusal: Refusal) -> DeductionAnswer
 }
 
 // What the caller is told of a contradiction: refusal 6.
-fn told(contradiction: bool) -> Tested
+fn told(contradiction: bool) -> Result<(), Refusal>
     ensures { result ≡ told_by contradiction }
 {
     if contradiction {
-        Tested::Refused(Refusal::Contradiction)
+        Err(Refusal::Contradiction)
     } else {
-        Tested::Accepted
+        Ok(())
     }
 }
 

@@ -8,8 +8,7 @@ pub mod answer;
 ghost use Rattle.std.specs.Prelude.{◌≡◌, Bool, length};
 ghost use mathlib.Core.List.{List, Memᴰ};
 ghost use Rattle.grid.specs.Window.{neighbours};
-ghost use Rattle.refusals.specs.declared.Tested.TheVariants.{Accepted};
-ghost use Rattle.refusals.specs.Refusals.{tested_number};
+ghost use Rattle.refusals.specs.Refusals.{Accepted, tested_number};
 ghost use Rattle.refusals.specs.Tests.{deduction_tested};
 ghost use Rattle.fitting.specs.Layouts.{Fits};
 ghost use Rattle.blocks.specs.Blocks.{Block};
@@ -28,7 +27,7 @@ use direct::answer::RuleAnswer;
 use direct::direct::direct_rule;
 use enumeration::enumerate::enumerate_rule;
 use frontier::read_blocks;
-use refusals::{Tested, test_deduction};
+use refusals::test_deduction;
 use subtraction::minus_rule;
 
 // The rules that can be called on a position.
@@ -72,11 +71,11 @@ pub fn deduce(
     ensures six { RefusesBy rule edgeless rows columns position.old safe.old mines.old (tested_number result.tested) }
 {
     match test_deduction(rows, columns, position, safe.len(), mines.len()) {
-        Tested::Accepted => {
+        Ok(()) => {
             let found = run_rule(rule, read_blocks(edgeless, rows, columns, position));
             give_answer(found, position, safe, mines)
         }
-        Tested::Refused(refusal) => refused(refusal),
+        Err(refusal) => refused(refusal),
     }
 }
 

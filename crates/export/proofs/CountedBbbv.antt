@@ -5,7 +5,6 @@ use Prim.Native.Nat.{ℕ, ◌<◌}
 use native.Mathlib.Omega.{arith}
 use lib.ListN.{length, get_or}
 use Rattle.grid.specs.Window.{flat, neighbours}
-use Rattle.refusals.specs.declared.Tested.TheVariants.{Accepted}
 use Rattle.refusals.specs.Tests.{bbbv_tested}
 use Rattle.bbbv.specs.Openings.{bbbv}
 use Rattle.bbbv.specs.Groups.{IsBbbv}
@@ -13,6 +12,7 @@ use Rattle.bbbv.specs.Answer.{cal_bbbv}
 use Rattle.bbbv.proofs.OnBoard.{counted_answer, answer_counts}
 use Rattle.export.specs.Returned.{Returned, bbbv_returned}
 use Rattle.export.proofs.StoredCounts.{count_stored}
+use Rattle.refusals.specs.Refusals.{Accepted}
 
 pub counted_bbbv : (rows columns : ℕ) (b counts : List ℕ) (after : Returned) → after ≡ bbbv_returned (cal_bbbv flat rows columns b) counts
     → bbbv_tested flat rows columns b ≡ Accepted → 0 < length counts → IsBbbv (neighbours flat rows columns) b (get_or after.counts 0 0)

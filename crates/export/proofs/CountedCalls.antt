@@ -1,6 +1,7 @@
 -- What the rules' calls and the table mean to C and Rust: what deductions/specs/Calls.antt and tables/specs/Listed.antt say of the answer holds of the number that is
 -- returned and of the first two counts, where there is room for both. The idea: the counts matter only where the number is 0, and there they are the answer's.
 -- Assumes nothing.
+use Rattle.std.specs.Prelude.{Err, Ok}
 use mathlib.Core.Path.{◌≡◌, refl, sym, ap, ◌∙◌}
 use mathlib.Core.List.{List, [], ◌∷◌}
 use Prim.Native.Nat.{ℕ, ◌<◌}
@@ -8,9 +9,7 @@ use native.Mathlib.Omega.{arith}
 use lib.ListN.{length, get_or}
 use Rattle.grid.specs.Window.{flat}
 use Rattle.refusals.specs.declared.Refusal.{Refusal}
-use Rattle.refusals.specs.declared.Tested.{Tested}
-use Rattle.refusals.specs.declared.Tested.TheVariants.{Accepted, Refused}
-use Rattle.refusals.specs.Refusals.{refusal_number, tested_number}
+use Rattle.refusals.specs.Refusals.{Accepted, Tested, refusal_number, tested_number}
 use Rattle.refusals.proofs.RefusalNumbers.{refusal_numbered}
 use Rattle.deductions.specs.Calls.{SoundCall, CompleteCall}
 use Rattle.deductions.specs.ByRule.{CompleteBy}
@@ -76,8 +75,8 @@ module _ (t : Tested) (a b : ℕ) (counts : List ℕ) {after : List ℕ} {n : �
     returned_counts = go t told
       where
         go : (u : Tested) → returned n [] after ≡ answered u (a ∷ b ∷ []) [] counts → CountsOf (tested_number u) a b after
-        go Accepted e = laid_counts 0 a b counts (ap (λ (v : Returned). v.counts) e) room
-        go (Refused x) e = refusal_numbered x
+        go (Ok _) e = laid_counts 0 a b counts (ap (λ (v : Returned). v.counts) e) room
+        go (Err x) e = refusal_numbered x
 
     -- it is sound
     pub returned_sound : {rows columns : ℕ} {p s m p' s' m' : List ℕ} → SoundCall flat rows columns p s m (tested_number t) a b p' s' m'

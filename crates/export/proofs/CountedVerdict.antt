@@ -13,8 +13,7 @@ use borrow.Author.Tests.{eqb-false}
 use Rattle.lists.specs.Lists.{bit}
 use Rattle.lists.proofs.Tests.{clash}
 use Rattle.grid.specs.Window.{flat, neighbours}
-use Rattle.refusals.specs.declared.Tested.TheVariants.{Accepted}
-use Rattle.refusals.specs.Refusals.{refusal_number}
+use Rattle.refusals.specs.Refusals.{Accepted, refusal_number}
 use Rattle.refusals.specs.Tests.{board_tested, start_cell}
 use Rattle.refusals.proofs.FirstFailure.{refusal_not_zero}
 use Rattle.fitting.specs.Demand.{Demand3Among}

@@ -1,13 +1,12 @@
 -- What a call returns to C or Rust, from what its inner call answers: a refusal's number with every slice as it was, or 0 with the counts laid over the front of
 -- their slice, one store after another. Said once for all calls. Assumes nothing.
+use Rattle.std.specs.Prelude.{Err}
 use mathlib.Core.Path.{◌≡◌, refl, sym, ap, ◌∙◌}
 use mathlib.Core.List.{List, [], ◌∷◌}
 use Prim.Native.Nat.{ℕ}
 use lib.ListN.{set}
 use Rattle.refusals.specs.declared.Refusal.{Refusal}
-use Rattle.refusals.specs.declared.Tested.{Tested}
-use Rattle.refusals.specs.declared.Tested.TheVariants.{Accepted, Refused}
-use Rattle.refusals.specs.Refusals.{refusal_number}
+use Rattle.refusals.specs.Refusals.{Accepted, Tested, refusal_number}
 use Rattle.deductions.specs.declared.answer.DeductionAnswer.{DeductionAnswer}
 use Rattle.deductions.specs.Answers.{Seen, seen}
 use Rattle.tables.specs.declared.TableAnswer.{TableAnswer}
@@ -43,7 +42,7 @@ four_laid before a b c d one two three four = four ∙ ap (λ (l : List ℕ). se
 -- ---- a refusal, and an answer
 
 module _ {t : Tested} (values : List ℕ) {lent : List (List ℕ)} (counts : List ℕ) where
-  pub refusal_returned : {r : Refusal} {n : ℕ} → t ≡ Refused r → n ≡ refusal_number r → returned n lent counts ≡ answered t values lent counts
+  pub refusal_returned : {r : Refusal} {n : ℕ} → t ≡ Err r → n ≡ refusal_number r → returned n lent counts ≡ answered t values lent counts
   unfolding answered
   refusal_returned told is = rw told (rw is)
 

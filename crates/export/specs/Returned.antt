@@ -1,10 +1,8 @@
 -- What C and Rust see after a call: a number, which is 0 or the refusal's number (SPECIFICATION 3.1); the slices that were lent for cells, in the order of the
 -- parameters; and the slice that was lent for counts. Each call's is given by what a caller in Rattle sees. Assumes nothing.
-use Rattle.std.specs.Prelude.{List, [], ◌∷◌, ℕ}
+use Rattle.std.specs.Prelude.{List, [], ◌∷◌, ℕ, Ok, Err}
 use Rattle.std.proofs.lemmas.List.Edits.{sets}
-use Rattle.refusals.specs.declared.Tested.{Tested}
-use Rattle.refusals.specs.declared.Tested.TheVariants as test
-use Rattle.refusals.specs.Refusals.{tested_number}
+use Rattle.refusals.specs.Refusals.{Tested, tested_number}
 use Rattle.frontier.specs.declared.FrontierAnswer.{FrontierAnswer}
 use Rattle.deductions.specs.Answers.{Seen}
 use Rattle.tables.specs.Tables.{table_number, table_values, TableSeen}
@@ -28,8 +26,8 @@ laid values slice = sets slice 0 values
 
 -- the lent counts after a call whose tests answered so: a refusal writes none
 abbrev pub counted : Tested → List ℕ → List ℕ → List ℕ
-counted test.Accepted values counts = laid values counts
-counted (test.Refused r) values counts = counts
+counted (Ok _) values counts = laid values counts
+counted (Err r) values counts = counts
 
 -- a call with these counts, lent these slices
 unfoldable pub answered : Tested → List ℕ → List (List ℕ) → List ℕ → Returned

@@ -7,7 +7,7 @@
 ghost use Rattle.std.specs.Prelude.{◌≡◌, Bool, List, [], ◌∷◌, ◌<◌, eqb, length, get_or, set};
 ghost use Rattle.lists.specs.Lists.{bit as bit_of};
 ghost use Rattle.grid.specs.Window.{flat, neighbours};
-ghost use Rattle.refusals.specs.declared.Tested.TheVariants.{Accepted};
+ghost use Rattle.refusals.specs.Refusals.{Accepted};
 ghost use Rattle.refusals.specs.Tests.{board_tested, deduction_tested, bbbv_tested, start_cell};
 ghost use Rattle.fitting.specs.Layouts.{Fits, of_total};
 ghost use Rattle.fitting.specs.Boards.{mine_total};
@@ -30,7 +30,7 @@ use deductions::{Rule, deduce};
 use frontier::refresh_matrixs;
 use grid::window::FLAT;
 use patterns::{PatternAnswer, unsolvable_structure};
-use refusals::{Tested, refusal_number};
+use refusals::Refusal;
 use tables::{TableAnswer, cal_all_solution};
 use verdict::{Verdict, is_solvable, is_solvable_total};
 
@@ -51,12 +51,12 @@ fn bit(passes: bool) -> usize
 }
 
 // A rule's answer: the refusal's number, or 0 and the counts of the two lists.
-fn put_deduction(tested: Tested, safe: usize, mines: usize, counts: &mut [u64]) -> u8
+fn put_deduction(tested: Result<(), Refusal>, safe: usize, mines: usize, counts: &mut [u64]) -> u8
     ensures { returned result [] counts.new ≡ answered tested (safe ∷ mines ∷ []) [] counts.old }
 {
     match tested {
-        Tested::Refused(refusal) => refusal_number(refusal),
-        Tested::Accepted => {
+        Err(refusal) => u8::from(refusal),
+        Ok(()) => {
             put_count(counts, 0, safe);
             put_count(counts, 1, mines);
             0
@@ -92,7 +92,7 @@ fn put_verdict(verdict: Verdict, counts: &mut [u64]) -> u8
     ensures { (result ≡ verdict_number verdict) × (counts.new ≡ laid (verdict_values verdict) counts.old) }
 {
     match verdict {
-        Verdict::Refused(refusal) => refusal_number(refusal),
+        Verdict::Refused(refusal) => u8::from(refusal),
         Verdict::Judged(yes, opened, grade, rounds) => {
             put_count(counts, 0, bit(yes));
             put_count(counts, 1, opened);
@@ -116,8 +116,8 @@ pub extern "C" fn lihvompa_frontier(
     let answer = refresh_matrixs(FLAT, rows, columns, position);
     let tested = answer.tested;
     match tested {
-        Tested::Refused(refusal) => refusal_number(refusal),
-        Tested::Accepted => {
+        Err(refusal) => u8::from(refusal),
+        Ok(()) => {
             let set = answer.blocks;
             put_count(counts, 0, set.blocks);
             put_count(counts, 1, answer.inside_cell);
@@ -216,7 +216,7 @@ pub extern "C" fn lihvompa_table(
 {
     let answer = cal_all_solution(FLAT, rows, columns, position, block, table);
     match answer {
-        TableAnswer::Refused(refusal) => refusal_number(refusal),
+        TableAnswer::Refused(refusal) => u8::from(refusal),
         TableAnswer::Listed(solutions, groups) => {
             put_count(counts, 0, solutions);
             put_count(counts, 1, groups);
@@ -237,7 +237,7 @@ pub extern "C" fn lihvompa_pattern(
 {
     let answer = unsolvable_structure(rows, columns, cells);
     match answer {
-        PatternAnswer::Refused(refusal) => refusal_number(refusal),
+        PatternAnswer::Refused(refusal) => u8::from(refusal),
         PatternAnswer::NotFound => {
             put_count(counts, 0, 0);
             0
@@ -258,7 +258,7 @@ pub extern "C" fn lihvompa_bbbv(rows: usize, columns: usize, cells: &[u8], count
 {
     let answer = cal_bbbv(FLAT, rows, columns, cells);
     match answer {
-        BbbvAnswer::Refused(refusal) => refusal_number(refusal),
+        BbbvAnswer::Refused(refusal) => u8::from(refusal),
         BbbvAnswer::Counted(number) => {
             put_count(counts, 0, number);
             0

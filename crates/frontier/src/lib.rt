@@ -14,13 +14,13 @@ ghost use Rattle.frontier.specs.Answer.{refresh_matrixs};
 use blocks::{BlockSet, empty_set};
 use filling::{fill_cells, fill_equations};
 use growth::{drop_first, grow_block};
-use refusals::{Tested, test_position};
+use refusals::{Refusal, test_position};
 use sources::read_sources;
 
 // What refresh_matrixs answers: the tests' answer, the blocks, the closed cells that touch no open one, and the known mines.
 #[derive(Drop)]
 pub struct FrontierAnswer {
-    pub tested: Tested,
+    pub tested: Result<(), Refusal>,
     pub blocks: BlockSet,
     pub inside_cell: usize,
     pub is_minenum: usize,
@@ -37,13 +37,13 @@ pub fn refresh_matrixs(
 {
     let tested = test_position(rows, columns, position);
     match tested {
-        Tested::Accepted => FrontierAnswer {
+        Ok(()) => FrontierAnswer {
             tested,
             blocks: read_blocks(edgeless, rows, columns, position),
             inside_cell: counts::inside_cells(edgeless, rows, columns, position),
             is_minenum: counts::known_mines(position),
         },
-        Tested::Refused(_) => FrontierAnswer {
+        Err(_) => FrontierAnswer {
             tested,
             blocks: empty_set(),
             inside_cell: 0,

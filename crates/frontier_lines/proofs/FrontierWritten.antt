@@ -1,13 +1,12 @@
 -- The writes that make up the frontier's answer, and that its block set can be read: the frontier fits into it, and a refusal has no block. Rests on the law
 -- of two writes joined, of the crate text, on the laws of the answer to a line, and on what an acceptance tells. Assumes nothing.
+use Rattle.std.specs.Prelude.{Err, Ok}
 use mathlib.Core.Path.{◌≡◌, refl, sym, subst}
 use mathlib.Core.Bool.{true}
 use mathlib.Core.List.{List, [], ◌∷◌}
 use Prim.Native.Nat.{ℕ}
 use native.Mathlib.Omega.{arith}
 use Rattle.grid.specs.Window.{flat, neighbours}
-use Rattle.refusals.specs.declared.Tested.{Tested}
-use Rattle.refusals.specs.declared.Tested.TheVariants.{Accepted, Refused}
 use Rattle.refusals.specs.Tests.{position_tested}
 use Rattle.refusals.proofs.Accepted.{accepted_position}
 use Rattle.blocks.specs.BlockSets.{blocks_of, Whole}
@@ -23,6 +22,7 @@ use Rattle.lines.specs.declared.Line.{Line}
 use Rattle.lines.specs.Lines.{line_of}
 use Rattle.lines.proofs.Answered.{readable_written}
 use Rattle.frontier_lines.specs.Frontier.{frontier_text, answer_to, frontier_line}
+use Rattle.refusals.specs.Refusals.{Accepted, Tested}
 
 -- ---- the block set
 
@@ -31,8 +31,8 @@ unfolding refresh_matrixs
 answer_whole rows columns p = go (position_tested rows columns p) refl
   where
     go : (t : Tested) → position_tested rows columns p ≡ t → Whole (frontier_after_tests t flat rows columns p).blocks
-    go Accepted e = set_whole (frontier (neighbours flat rows columns) p) _ refl (frontier_fits flat rows columns p (accepted_position rows columns p e).board)
-    go (Refused r) e = set_whole [] _ refl none_fits
+    go (Ok _) e = set_whole (frontier (neighbours flat rows columns) p) _ refl (frontier_fits flat rows columns p (accepted_position rows columns p e).board)
+    go (Err r) e = set_whole [] _ refl none_fits
 
 -- ---- the writes
 

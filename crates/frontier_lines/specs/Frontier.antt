@@ -1,9 +1,7 @@
 -- Cited by no public contract. The answer of refresh_matrixs to a line: `inside 1 mines 0 blocks 1 [1 | 1=1]`, `refused 2`, or `unreadable`. Assumes nothing.
-use Rattle.std.specs.Prelude.{cond, List, [], ◌∷◌, ◌++◌, ℕ, take}
+use Rattle.std.specs.Prelude.{Err, cond, List, [], ◌∷◌, ◌++◌, ℕ, take, Ok}
 use Rattle.grid.specs.Window.{flat}
-use Rattle.refusals.specs.declared.Tested.{Tested}
-use Rattle.refusals.specs.declared.Tested.TheVariants.{Accepted, Refused}
-use Rattle.refusals.specs.Refusals.{refusal_number}
+use Rattle.refusals.specs.Refusals.{Accepted, Tested, refusal_number}
 use Rattle.blocks.specs.BlockSets.{blocks_of}
 use Rattle.frontier.specs.declared.FrontierAnswer.{FrontierAnswer}
 use Rattle.frontier.specs.Answer.{refresh_matrixs}
@@ -15,8 +13,8 @@ use Rattle.lines.specs.Lines.{line_of, unreadable_text}
 
 -- `inside 1 mines 0 blocks 1 [1 | 1=1]`
 abbrev pub frontier_text : Tested → FrontierAnswer → List ℕ
-frontier_text (Refused r) a = refused_text (refusal_number r)
-frontier_text Accepted a =
+frontier_text (Err r) a = refused_text (refusal_number r)
+frontier_text (Ok _) a =
     ((105 ∷ 110 ∷ 115 ∷ 105 ∷ 100 ∷ 101 ∷ 32 ∷ []) ++ decimal a.inside_cell)
     ++ (((32 ∷ 109 ∷ 105 ∷ 110 ∷ 101 ∷ 115 ∷ 32 ∷ []) ++ decimal a.is_minenum) ++ (32 ∷ blocks_text (blocks_of a.blocks)))
 

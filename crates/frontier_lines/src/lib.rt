@@ -7,7 +7,6 @@ ghost use Rattle.frontier_lines.specs.Frontier.{frontier_line};
 use frontier::refresh_matrixs;
 use grid::window::FLAT;
 use lines::read_line;
-use refusals::Tested;
 use show::{put_blocks, put_refused};
 use text::{put_bytes, put_number};
 
@@ -24,8 +23,8 @@ pub fn frontier_line(line: &[u8], out: &mut [u8]) -> usize
     let answer = refresh_matrixs(FLAT, read.rows, read.columns, &cells[..len]);
     let tested = answer.tested;
     match tested {
-        Tested::Refused(refusal) => put_refused(out, refusal),
-        Tested::Accepted => {
+        Err(refusal) => put_refused(out, refusal),
+        Ok(()) => {
             let mut at = put_bytes(out, 0, b"inside ");
             at = put_number(out, at, answer.inside_cell);
             at = put_bytes(out, at, b" mines ");

@@ -1,6 +1,7 @@
 -- A stored record, carried over, is judged as it was before 255,255 was retired: refused with the same number, or judged from the same cell; but a start on a mine, which was judged no, is
 -- refused with 13, and a first 0 is none. Where a record has the retired start and no 0, which was refused, it is refused still, and by 4 at the latest. Rests on the laws of the start that
 -- is written and of two lists of tests, one after the other. Assumes nothing.
+use Rattle.std.specs.Prelude.{Err, Ok}
 use mathlib.Core.Path.{◌≡◌, refl, sym, ap, ◌∙◌}
 use mathlib.Core.Logic.{◌⊎◌, inl, inr, ◌≢◌}
 use mathlib.Core.Bool.{Bool, true, false, not, cond, ◌&&◌, ◌||◌, or-false, and_self_left}
@@ -16,9 +17,7 @@ use Rattle.lists.proofs.FirstPlaces.{first_passes}
 use Rattle.grid.specs.Cells.{cell_of}
 use Rattle.grid.specs.Window.{flat, neighbours}
 use Rattle.refusals.specs.declared.Refusal.TheVariants.{Size, Length, Cell, Start, Number, StartMine}
-use Rattle.refusals.specs.declared.Tested.{Tested}
-use Rattle.refusals.specs.declared.Tested.TheVariants.{Accepted, Refused}
-use Rattle.refusals.specs.Refusals.{tested_number, Test, test, tested}
+use Rattle.refusals.specs.Refusals.{Accepted, Tested, tested_number, Test, test, tested}
 use Rattle.refusals.specs.Tests.{size_ok, length_ok, board_cells_ok, start_ok, numbers_ok, start_cell, start_safe, board_tested}
 use Rattle.refusals.proofs.FirstFailure.{then_tested, tested_append}
 use Rattle.refusals.proofs.RefusalNumbers.{refusal_numbered}
@@ -37,13 +36,13 @@ use Rattle.migration.proofs.MigratedRecords.{changed_open, changed_zero, unchang
 module _ (seen : VerdictSeen) (shown opened_in : List ℕ) where
   -- a refusal by the earlier tests is the answer's
   earlier_refuse : (earlier later : Tested) → tested_number earlier ≢ 0 → verdict_number (verdict_after_tests (then_tested earlier later) seen shown opened_in).answer ≡ tested_number earlier
-  earlier_refuse Accepted later some = absurd (some refl)
-  earlier_refuse (Refused r) later some = refl
+  earlier_refuse (Ok _) later some = absurd (some refl)
+  earlier_refuse (Err r) later some = refl
 
   -- where they accept, the later one answers
   earlier_accept : (earlier later : Tested) → tested_number earlier ≡ 0 → (verdict_after_tests (then_tested earlier later) seen shown opened_in).answer ≡ (verdict_after_tests later seen shown opened_in).answer
-  earlier_accept Accepted later none = refl
-  earlier_accept (Refused r) later none = refusal_numbered r none
+  earlier_accept (Ok _) later none = refl
+  earlier_accept (Err r) later none = refusal_numbered r none
 
 -- ---- tests 1 to 5
 
@@ -103,7 +102,7 @@ module _ (rows columns row column : ℕ) (b : List ℕ) where
   earlier = tested (tests_by rows columns b picture (start_ok rows columns row column))
 
   abbrev later : Tested
-  later = cond (start_safe columns row column b) Accepted (Refused StartMine)
+  later = cond (start_safe columns row column b) Accepted (Err StartMine)
 
   -- a slice of rounds as long as the picture passes where the picture does
   lengths_told : all (length_ok rows columns) (length b ∷ length zeros ∷ length zeros ∷ []) ≡ all (length_ok rows columns) (length b ∷ picture ∷ [])

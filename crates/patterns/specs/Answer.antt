@@ -1,8 +1,6 @@
 -- The answer of the pattern call: refusals 1 to 3 of SPECIFICATION 3.1, else whether a pattern is found. It looks at mines only. Assumes nothing.
-use Rattle.std.specs.Prelude.{Bool, cond, List, [], ◌∷◌, ℕ}
-use Rattle.refusals.specs.declared.Tested.{Tested}
-use Rattle.refusals.specs.declared.Tested.TheVariants as tests
-use Rattle.refusals.specs.Refusals.{refusal_number}
+use Rattle.std.specs.Prelude.{Bool, cond, List, [], ◌∷◌, ℕ, Ok, Err}
+use Rattle.refusals.specs.Refusals.{Tested, refusal_number}
 use Rattle.refusals.specs.Tests.{pattern_tested}
 use Rattle.patterns.specs.declared.PatternAnswer.{PatternAnswer}
 use Rattle.patterns.specs.declared.PatternAnswer.TheVariants.{Refused, NotFound, Found}
@@ -10,8 +8,8 @@ use Rattle.patterns.specs.Shapes.{pattern_found}
 
 -- what the call answers once its tests have
 abbrev pub pattern_after_tests : Tested → Bool → PatternAnswer
-pattern_after_tests tests.Accepted found = cond found Found NotFound
-pattern_after_tests (tests.Refused r) found = Refused r
+pattern_after_tests (Ok _) found = cond found Found NotFound
+pattern_after_tests (Err r) found = Refused r
 
 -- what unsolvable_structure answers
 unfoldable pub unsolvable_structure : ℕ → ℕ → List ℕ → PatternAnswer

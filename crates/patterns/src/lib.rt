@@ -11,7 +11,7 @@ ghost use Rattle.patterns.specs.Answer.{unsolvable_structure};
 ghost use Rattle.patterns.specs.Walk.{Laid};
 
 use grid::window::cell_number;
-use refusals::{Refusal, Tested, test_pattern};
+use refusals::{Refusal, test_pattern};
 use table::pattern_found;
 
 // What the pattern call answers.
@@ -28,8 +28,8 @@ pub fn unsolvable_structure(rows: usize, columns: usize, cells: &[u8]) -> Patter
 {
     let tested = test_pattern(rows, columns, cells);
     match tested {
-        Tested::Refused(refusal) => PatternAnswer::Refused(refusal),
-        Tested::Accepted => {
+        Err(refusal) => PatternAnswer::Refused(refusal),
+        Ok(()) => {
             let mut board = [[255u8; 32]; 32];
             lay(&mut board, rows, columns, cells);
             if pattern_found(&board, rows, columns) {

@@ -5,7 +5,7 @@
 
 ghost use Rattle.std.specs.Prelude.{◌≡◌, ◌+◌, ◌≤◌, IfSome, length};
 
-use refusals::{Refusal, refusal_number};
+use refusals::Refusal;
 use run::{Run, RunState, Tally, answer_part, goes_on, keep_rest, new_run, run_after};
 use std::io::{Read, Write};
 use telling::{tell, tell_failure, tell_number};
@@ -79,7 +79,7 @@ fn take_turn<R: Read, W: Write, E: Write>(
 fn tell_damage<E: Write>(messages: &mut E, refusal: Refusal, at: usize) {
     tell(messages, b"judge: stopped at byte ");
     tell_number(messages, at);
-    if refusal_number(refusal) == 11 {
+    if refusal == Refusal::Short {
         tell(
             messages,
             b" of the input: it ends inside the record that begins there, which was not judged\n",

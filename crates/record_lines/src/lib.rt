@@ -9,7 +9,7 @@ ghost use Rattle.record_lines.specs.Answers.{verdict_word, verdict_text, line_te
 
 use grid::window::FLAT;
 use records::BoardMark;
-use refusals::{Refusal, refusal_number};
+use refusals::Refusal;
 use text::{put_byte, put_bytes, put_number};
 use verdict::{Verdict, is_solvable, is_solvable_total};
 
@@ -32,7 +32,7 @@ pub fn put_verdict(out: &mut [u8], at: usize, verdict: Verdict) -> usize
     match verdict {
         Verdict::Refused(refusal) => {
             let word = put_bytes(out, at, b"refused ");
-            put_number(out, word, refusal_number(refusal) as usize)
+            put_number(out, word, u8::from(refusal) as usize)
         }
         Verdict::Judged(yes, opened, grade, rounds) => {
             let mut k = put_word(out, at, yes);

@@ -12,8 +12,7 @@ use Rattle.lists.proofs.Tests.{and_left, and_right, every_at}
 use Rattle.lists.proofs.All.{all_head, all_tail, all_at}
 use Rattle.grid.specs.Cells.{is_board_cell, is_position_cell, cell_of, shows}
 use Rattle.grid.specs.Window.{neighbours, Board}
-use Rattle.refusals.specs.declared.Tested.TheVariants.{Accepted}
-use Rattle.refusals.specs.Refusals.{tested}
+use Rattle.refusals.specs.Refusals.{Accepted, tested}
 use Rattle.refusals.specs.SharedTests.{cell_tests}
 use Rattle.refusals.specs.Tests.{size_ok, length_ok, room_ok, board_cells_ok, position_cells_ok, start_ok, mines_beside, numbers_ok, start_cell, board_tests, board_tested, position_tests, position_tested, deduction_tests, deduction_tested, pattern_tests, pattern_tested, bbbv_tests, bbbv_tested}
 use Rattle.refusals.proofs.Starts.{start_cell_within, start_safe_safe}

@@ -13,12 +13,12 @@ use Rattle.lists.proofs.Tests.{Decided, decided, or_right, every_of}
 use Rattle.lists.proofs.Counts.{count_ext}
 use Rattle.grid.specs.Cells.{cell_of}
 use Rattle.grid.specs.Window.{neighbours}
-use Rattle.refusals.specs.declared.Tested.TheVariants.{Accepted as TestsPassed}
 use Rattle.refusals.specs.Tests.{board_cells_ok, numbers_ok, mines_beside, board_tested, bbbv_tested}
 use Rattle.refusals.proofs.Accepted.{board_cell_at, number_at, accepted_board, accepted_bbbv}
 use Rattle.fitting.specs.Layouts.{mine_at}
 use Rattle.fitting.specs.Boards.{own, Accepted}
 use Rattle.fitting.proofs.Own.{own_at}
+use Rattle.refusals.specs.Refusals.{Accepted as TestsPassed}
 
 module _ (near : ℕ → List ℕ) (b : List ℕ) where
   -- a cell's neighbouring mines are counted alike on the board and in its own layout

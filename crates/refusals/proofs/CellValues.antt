@@ -2,18 +2,24 @@
 -- to 255, as it is the position's from 10 to 12 by definition; and what a cell that passes is. Assumes nothing.
 use mathlib.Core.Path.{◌≡◌, refl}
 use mathlib.Core.Logic.{◌⊎◌, inl, inr}
-use mathlib.Core.Bool.{true, ◌&&◌}
+use mathlib.Core.Bool.{Bool, true, ◌&&◌}
 use mathlib.Core.List.{List, [], ◌∷◌}
 use Prim.Native.Nat.{ℕ, ◌≤◌}
 use native.Mathlib.Omega.{arith}
 use native.Mathlib.Decide.{ℕ_discrete}
 use lib.Dec.{leb, eqb}
 use borrow.Author.Tests.{leb-true, eqb-true, eq-eqb}
+use Rattle.std.specs.List.{list_all}
 use Rattle.lists.specs.Lists.{all}
 use Rattle.lists.proofs.Tests.{same_test, and_left, and_right, or_cases}
 use Rattle.grid.specs.Cells.{is_board_cell, is_position_cell}
 use Rattle.refusals.specs.Tests.{board_cells_ok}
 use Rattle.refusals.specs.SharedTests.{cell_in}
+
+-- the library's word for a test that each element of a list passes
+pub all_listed : (f : ℕ → Bool) (b : List ℕ) → list_all f b ≡ all f b
+all_listed f [] = refl
+all_listed f (v ∷ b) = rw (all_listed f b)
 
 pub board_cells_in : (b : List ℕ) → all (cell_in 255 255) b ≡ board_cells_ok b
 unfolding board_cells_ok

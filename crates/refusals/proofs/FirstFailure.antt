@@ -1,6 +1,7 @@
 -- The rule that the first test that fails gives its refusal, over any list of tests: a list accepts exactly where every test passes, a refusal is
 -- that of a test which fails with every test before it passing, and where the list is in the order of the numbers it has the lowest number of those
 -- that apply. By recursion on the list. Assumes nothing.
+use Rattle.std.specs.Prelude.{Ok, Err}
 use mathlib.Core.Path.{◌≡◌, refl, sym, ◌∙◌, ap}
 use mathlib.Core.Logic.{inl, inr, ◌≢◌}
 use mathlib.Core.Bool.{Bool, true, false, not, cond, ◌&&◌, ◌||◌}
@@ -15,9 +16,7 @@ use Rattle.lists.proofs.All.{all_at}
 use Rattle.lists.proofs.Tests.{Decided, decided, clash, and_left, and_right, or_right}
 use Rattle.refusals.specs.declared.Refusal.{Refusal}
 use Rattle.refusals.specs.declared.Refusal.TheVariants.{Size, Length, Cell, Start, Number, Contradiction, Block, Table, Mark, Short, StartMine}
-use Rattle.refusals.specs.declared.Tested.{Tested}
-use Rattle.refusals.specs.declared.Tested.TheVariants.{Accepted, Refused}
-use Rattle.refusals.specs.Refusals.{refusal_number, Test, test, tested}
+use Rattle.refusals.specs.Refusals.{Accepted, Tested, refusal_number, Test, test, tested}
 
 -- ---- what the code's `if !test(..)` tells of the test that the call answers with
 
@@ -30,13 +29,13 @@ failed e h = sym e ∙ not-true _ h
 -- ---- acceptance
 
 -- no answer is both
-pub not_both : {P : Type 0} (a : Tested) (r : Refusal) → a ≡ Accepted → a ≡ Refused r → P
+pub not_both : {P : Type 0} (a : Tested) (r : Refusal) → a ≡ Accepted → a ≡ Err r → P
 not_both a r p q = let z : ◌≡◌ {A = ℕ} 0 1 = cc in absurd (omega arith)
 
 -- an answer of Accepted: this test passed, and the rest accepts
-pub accepted_on : (t : Bool) (rest : Tested) (r : Refusal) → cond t rest (Refused r) ≡ Accepted → (t ≡ true) × (rest ≡ Accepted)
+pub accepted_on : (t : Bool) (rest : Tested) (r : Refusal) → cond t rest (Err r) ≡ Accepted → (t ≡ true) × (rest ≡ Accepted)
 accepted_on true rest r h = (refl, h)
-accepted_on false rest r h = not_both (Refused r) r h refl
+accepted_on false rest r h = not_both (Err r) r h refl
 
 pub accepted_passes : (ts : List Test) → tested ts ≡ Accepted → all (λ t. t.passes) ts ≡ true
 accepted_passes [] h = refl
@@ -54,8 +53,8 @@ accepted_at ts h i w = all_at (λ t. t.passes) ts i (test true Size) (accepted_p
 
 -- the refusal of the earlier ones, if they have one, else the answer of the later
 abbrev pub then_tested : Tested → Tested → Tested
-then_tested Accepted later = later
-then_tested (Refused r) later = Refused r
+then_tested (Ok _) later = later
+then_tested (Err r) later = Err r
 
 pub tested_append : (ts us : List Test) {answer : Tested} → tested ts ≡ answer → tested (ts ++ us) ≡ then_tested answer (tested us)
 tested_append ts us e = rw (← e) (both ts)
@@ -65,7 +64,7 @@ tested_append ts us e = rw (← e) (both ts)
     both (t ∷ l) = go t.passes (both l)
       where
         go : (p : Bool) → tested (l ++ us) ≡ then_tested (tested l) (tested us)
-            → cond p (tested (l ++ us)) (Refused t.else) ≡ then_tested (cond p (tested l) (Refused t.else)) (tested us)
+            → cond p (tested (l ++ us)) (Err t.else) ≡ then_tested (cond p (tested l) (Err t.else)) (tested us)
         go true below = below
         go false below = refl
 
@@ -109,11 +108,11 @@ pub record FirstFailing (ts : List Test) (r : Refusal) : Type 0 where
   pub fails : failing.passes ≡ false
   pub gives : failing.else ≡ r
 
-pub refused_first : (ts : List Test) (r : Refusal) → tested ts ≡ Refused r → FirstFailing ts r
+pub refused_first : (ts : List Test) (r : Refusal) → tested ts ≡ Err r → FirstFailing ts r
 refused_first [] r h = not_both Accepted r refl h
 refused_first (t ∷ ts) r h = go (decided t.passes) (refused_first ts r)
   where
-    go : Decided t.passes → (tested ts ≡ Refused r → FirstFailing ts r) → FirstFailing (t ∷ ts) r
+    go : Decided t.passes → (tested ts ≡ Err r → FirstFailing ts r) → FirstFailing (t ∷ ts) r
     go (inl p) below =
         let f = below (rw p at h) in
         record {
@@ -126,10 +125,10 @@ refused_first (t ∷ ts) r h = go (decided t.passes) (refused_first ts r)
           gives = f.gives;
         }
     go (inr p) below =
-        let same : Refused t.else ≡ Refused r = rw p at h in
+        let same : Err t.else ≡ Err r = rw p at h in
         record { earlier = []; failing = t; later = ts; split = refl; pass = refl; fails = p; gives = cc }
 
-pub first_refused : {ts : List Test} {r : Refusal} → FirstFailing ts r → tested ts ≡ Refused r
+pub first_refused : {ts : List Test} {r : Refusal} → FirstFailing ts r → tested ts ≡ Err r
 first_refused f =
     rw f.split (tested_append f.earlier (f.failing ∷ f.later) (passes_accepted f.earlier f.pass) ∙ rw (f.fails, f.gives))
 
@@ -151,16 +150,16 @@ later_fails n (t ∷ ts) h =
     let rest = all (λ u. leb n (refusal_number u.else)) ts in
     rw (or_right t.passes low (and_left low rest h)) (later_fails n ts (and_right low rest h))
 
-pub refused_lowest : (ts : List Test) (r : Refusal) → ascending ts ≡ true → tested ts ≡ Refused r → fails_from (refusal_number r) ts ≡ true
+pub refused_lowest : (ts : List Test) (r : Refusal) → ascending ts ≡ true → tested ts ≡ Err r → fails_from (refusal_number r) ts ≡ true
 refused_lowest [] r a h = refl
 refused_lowest (t ∷ ts) r a h = go (decided t.passes) (refused_lowest ts r (and_right above (ascending ts) a))
   where
     above : Bool
     above = all (λ u. leb (refusal_number t.else) (refusal_number u.else)) ts
 
-    go : Decided t.passes → (tested ts ≡ Refused r → fails_from (refusal_number r) ts ≡ true) → fails_from (refusal_number r) (t ∷ ts) ≡ true
+    go : Decided t.passes → (tested ts ≡ Err r → fails_from (refusal_number r) ts ≡ true) → fails_from (refusal_number r) (t ∷ ts) ≡ true
     go (inl p) below = rw p (below (rw p at h))
     go (inr p) below =
-        let same : Refused t.else ≡ Refused r = rw p at h in
+        let same : Err t.else ≡ Err r = rw p at h in
         let is : t.else ≡ r = cc in
         rw (p, is, le-leb (refusal_number r) (refusal_number r) (omega arith)) (later_fails (refusal_number r) ts (rw is at (and_left above (ascending ts) a)))

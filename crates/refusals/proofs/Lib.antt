@@ -5,6 +5,7 @@ pub mod CellValues
 pub mod Numbers
 pub mod FirstFailure
 pub mod RefusalNumbers
+pub mod LaterTests
 pub mod Accepted
 pub mod Lowest
 pub mod Admitted

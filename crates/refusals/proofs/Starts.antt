@@ -1,5 +1,6 @@
 -- The cell of a start that test 4 passes is on the board, and test 13 tells that it is safe. A start in a row past the last of any board, as 255,255 is, is refused with 4
 -- where tests 1 to 3 pass, and a start on a mine with 13 where tests 1 to 5 pass. Assumes nothing.
+use Rattle.std.specs.Prelude.{Err}
 use mathlib.Core.Path.{◌≡◌}
 use mathlib.Core.Logic.{◌≢◌}
 use mathlib.Core.Bool.{Bool, true, false}
@@ -15,7 +16,6 @@ use Rattle.lists.proofs.Tests.{and_left, and_right}
 use Rattle.grid.specs.Cells.{cell_of}
 use Rattle.grid.specs.Window.{neighbours, On}
 use Rattle.refusals.specs.declared.Refusal.TheVariants.{Start, StartMine}
-use Rattle.refusals.specs.declared.Tested.TheVariants.{Refused}
 use Rattle.refusals.specs.Tests.{size_ok, length_ok, board_cells_ok, start_ok, numbers_ok, start_cell, start_safe, board_tested}
 use Rattle.refusals.proofs.Sides.{size_ok_sized}
 
@@ -38,7 +38,7 @@ module _ (rows columns : ℕ) (size : size_ok 1 rows columns ≡ true) where
 
   -- the retired start, whatever the numbers
   pub retired_start_refused : (edgeless : Bool) (b lent : List ℕ) → all (length_ok rows columns) (length b ∷ lent) ≡ true → board_cells_ok b ≡ true
-      → board_tested edgeless rows columns 255 255 b lent ≡ Refused Start
+      → board_tested edgeless rows columns 255 255 b lent ≡ Err Start
   unfolding board_tested
   retired_start_refused edgeless b lent lengths cells = rw (size, lengths, cells, past_start_off 255 255 (omega arith))
 
@@ -59,6 +59,6 @@ module _ (columns row column : ℕ) (b : List ℕ) where
 -- so a board that is right but for its start is refused with 13
 pub mine_start_refused : (edgeless : Bool) (rows columns row column : ℕ) (b lent : List ℕ) → size_ok 1 rows columns ≡ true → all (length_ok rows columns) (length b ∷ lent) ≡ true
     → board_cells_ok b ≡ true → start_ok rows columns row column ≡ true → numbers_ok (neighbours edgeless rows columns) b ≡ true → cell_of b (start_cell columns row column) ≡ 255
-    → board_tested edgeless rows columns row column b lent ≡ Refused StartMine
+    → board_tested edgeless rows columns row column b lent ≡ Err StartMine
 unfolding board_tested
 mine_start_refused edgeless rows columns row column b lent size lengths cells start numbers mine = rw (size, lengths, cells, start, numbers, mine_start_fails columns row column b mine)

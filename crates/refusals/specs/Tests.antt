@@ -3,10 +3,9 @@
 use Rattle.std.specs.Prelude.{Bool, not, ◌&&◌, ◌||◌, List, [], ◌∷◌, ℕ, ◌+◌, ◌*◌, leb, ltb, eqb, length}
 use Rattle.lists.specs.Lists.{every, all, count}
 use Rattle.refusals.specs.declared.Refusal.TheVariants.{Size, Length, Cell, Start, Number, StartMine}
-use Rattle.refusals.specs.declared.Tested.{Tested}
 use Rattle.grid.specs.Cells.{is_board_cell, is_position_cell, cell_of}
 use Rattle.grid.specs.Window.{neighbours}
-use Rattle.refusals.specs.Refusals.{Test, test, tested}
+use Rattle.refusals.specs.Refusals.{Tested, Test, test, tested}
 
 -- 1, size: both sides from `least` (1, and 3 for patterns) to 32
 unfoldable pub size_ok : ℕ → ℕ → ℕ → Bool

@@ -2,54 +2,36 @@
 // what a later test asks for, the earlier ones have shown. No test forms rows × columns before the size is known to be small.
 #![tactic(auto)]
 
-ghost use Rattle.std.specs.Prelude.{◌≡◌, true, not, cond, ◌&&◌, ◌||◌, leb};
+ghost use Rattle.std.specs.Prelude.{◌≡◌, true, ◌&&◌, leb};
 ghost use Rattle.lists.specs.Lists.{all};
 ghost use Rattle.grid.specs.Window.{neighbours, Sized, Board};
 ghost use Rattle.refusals.specs.Refusals.{refusal_number, tested};
-ghost use Rattle.refusals.specs.Tests.{size_ok, length_ok, room_ok, start_ok, numbers_ok, start_cell, start_safe, board_tested, position_tested, deduction_tested, pattern_tested, bbbv_tested};
+ghost use Rattle.refusals.specs.Tests.{size_ok, length_ok, room_ok, start_ok, numbers_ok, start_cell, board_tested, position_tested, deduction_tested, pattern_tested, bbbv_tested};
 ghost use Rattle.refusals.specs.SharedTests.{cell_in, cell_tests};
 
 use grid::window::{count_beside, wide_byte};
 
 // What a call may refuse, in the order of their numbers, of which 7 is not given again.
-#[derive(Clone, Copy)]
+#[derive(Clone, Copy, PartialEq, Eq)]
 pub enum Refusal {
-    Size,
-    Length,
-    Cell,
-    Start,
-    Number,
-    Contradiction,
-    Block,
-    Table,
-    Mark,
-    Short,
-    StartMine,
+    Size = 1,
+    Length = 2,
+    Cell = 3,
+    Start = 4,
+    Number = 5,
+    Contradiction = 6,
+    Block = 8,
+    Table = 9,
+    Mark = 10,
+    Short = 11,
+    StartMine = 13,
 }
 
-// What a call's tests answer.
-#[derive(Clone, Copy)]
-pub enum Tested {
-    Accepted,
-    Refused(Refusal),
-}
+impl From<Refusal> for u8 {
+    ghost from_gives = { λ refusal number. number ≡ refusal_number refusal };
 
-// The number of a refusal.
-pub fn refusal_number(refusal: Refusal) -> u8
-    ensures { result ≡ refusal_number refusal }
-{
-    match refusal {
-        Refusal::Size => 1,
-        Refusal::Length => 2,
-        Refusal::Cell => 3,
-        Refusal::Start => 4,
-        Refusal::Number => 5,
-        Refusal::Contradiction => 6,
-        Refusal::Block => 8,
-        Refusal::Table => 9,
-        Refusal::Mark => 10,
-        Refusal::Short => 11,
-        Refusal::StartMine => 13,
+    fn from(refusal: Refusal) -> u8 {
+        refusal as u8
     }
 }
 
@@ -57,18 +39,15 @@ pub fn refusal_number(refusal: Refusal) -> u8
 fn side_ok(least: usize, side: usize) -> bool
     ensures { result ≡ (leb least side && leb side 32) }
 {
-    if least <= side { side <= 32 } else { false }
+    (least..=32).contains(&side)
 }
 
 // Test 1: both sides are from `least` to 32.
+#[tactic(auto, unfolding(crate::specs::Tests::size_ok))]
 pub fn size_ok(least: usize, rows: usize, columns: usize) -> bool
     ensures { result ≡ size_ok least rows columns }
 {
-    if side_ok(least, rows) {
-        side_ok(least, columns)
-    } else {
-        false
-    }
+    side_ok(least, rows) && side_ok(least, columns)
 }
 
 // Test 2: a slice of `length` bytes has one for each cell.
@@ -87,13 +66,21 @@ pub fn room_ok(rows: usize, columns: usize, length: usize) -> bool
     rows * columns <= length
 }
 
+// Test 2: both of the lent lists, of these lengths, have room for each cell.
+fn lists_ok(rows: usize, columns: usize, safe: usize, mines: usize) -> bool
+    requires { Sized rows columns }
+    ensures { result ≡ (room_ok rows columns safe && room_ok rows columns mines) }
+{
+    room_ok(rows, columns, safe) && room_ok(rows, columns, mines)
+}
+
 // Test 2: each of the lent slices, of these lengths, has one byte for each cell.
 fn lengths_ok(rows: usize, columns: usize, lent: &[usize]) -> bool
     requires { Sized rows columns }
     ensures { result ≡ all (length_ok rows columns) lent.now }
 {
-    for i in 0..lent.len() {
-        if !length_ok(rows, columns, lent[i]) {
+    for &length in lent {
+        if !length_ok(rows, columns, length) {
             return false;
         }
     }
@@ -104,29 +91,22 @@ fn lengths_ok(rows: usize, columns: usize, lent: &[usize]) -> bool
 fn cell_ok(low: u8, high: u8, v: u8) -> bool
     ensures { result ≡ cell_in low high v }
 {
-    if v <= 8 {
-        return true;
-    }
-    if low <= v { v <= high } else { false }
+    v <= 8 || (low..=high).contains(&v)
 }
 
 // Test 3: each cell is 0 to 8, or `low` to `high`, which is 255 to 255 on a board and 10 to 12 in a position.
 fn cells_ok(low: u8, high: u8, cells: &[u8]) -> bool
     ensures { result ≡ all (cell_in low high) cells.now }
 {
-    for i in 0..cells.len() {
-        if !cell_ok(low, high, cells[i]) {
-            return false;
-        }
-    }
-    true
+    cells.iter().all(|&v| cell_ok(low, high, v))
 }
 
 // Test 4: the start is on the board.
+#[tactic(auto, unfolding(crate::specs::Tests::start_ok))]
 pub fn start_ok(rows: usize, columns: usize, row: usize, column: usize) -> bool
     ensures { result ≡ start_ok rows columns row column }
 {
-    if row < rows { column < columns } else { false }
+    row < rows && column < columns
 }
 
 // Test 5: each safe cell's number is its count of neighbouring mines.
@@ -164,40 +144,27 @@ pub fn start_cell(rows: usize, columns: usize, row: usize, column: usize) -> usi
     row * columns + column
 }
 
-// Test 13: the start is not on a mine. One off the board passes; test 4 has refused it.
-fn start_safe(rows: usize, columns: usize, row: usize, column: usize, cells: &[u8]) -> bool
-    requires { Board cells.now rows columns }
-    ensures { result ≡ (not (start_ok rows columns row column) || start_safe columns row column cells.now) }
-{
-    if start_ok(rows, columns, row, column) {
-        cells[start_cell(rows, columns, row, column)] != 255
-    } else {
-        true
-    }
-}
-
-// The refusal of a test that fails, by its answer; else what the tests after it answer.
-fn first_refusal(passes: bool, refusal: Refusal, later: Tested) -> Tested
-    ensures { result ≡ cond passes later (Tested.Refused refusal) }
-{
-    if passes {
-        later
-    } else {
-        Tested::Refused(refusal)
-    }
-}
-
 // Tests 1, 2 and 3 of a call on cells that are 0 to 8, or `low` to `high`.
-fn test_cells(least: usize, rows: usize, columns: usize, low: u8, high: u8, cells: &[u8]) -> Tested
+fn test_cells(
+    least: usize,
+    rows: usize,
+    columns: usize,
+    low: u8,
+    high: u8,
+    cells: &[u8],
+) -> Result<(), Refusal>
     ensures { result ≡ tested (cell_tests least rows columns cells.now (all (cell_in low high) cells.now)) }
 {
     if !size_ok(least, rows, columns) {
-        return Tested::Refused(Refusal::Size);
+        return Err(Refusal::Size);
     }
     if !length_ok(rows, columns, cells.len()) {
-        return Tested::Refused(Refusal::Length);
+        return Err(Refusal::Length);
     }
-    first_refusal(cells_ok(low, high, cells), Refusal::Cell, Tested::Accepted)
+    if !cells_ok(low, high, cells) {
+        return Err(Refusal::Cell);
+    }
+    Ok(())
 }
 
 // The tests of a board call, which lends slices of the lengths `lent` too. These are measured before the board: test 2 is one refusal for all.
@@ -209,29 +176,27 @@ pub fn test_board(
     column: usize,
     cells: &[u8],
     lent: &[usize],
-) -> Tested
+) -> Result<(), Refusal>
     ensures { result ≡ board_tested edgeless rows columns row column cells.now lent.now }
 {
-    if size_ok(1, rows, columns) {
-        if !lengths_ok(rows, columns, lent) {
-            return Tested::Refused(Refusal::Length);
-        }
+    if size_ok(1, rows, columns) && !lengths_ok(rows, columns, lent) {
+        return Err(Refusal::Length);
     }
-    match test_cells(1, rows, columns, 255, 255, cells) {
-        Tested::Refused(refusal) => Tested::Refused(refusal),
-        Tested::Accepted => {
-            let start = start_ok(rows, columns, row, column);
-            let numbers = numbers_ok(edgeless, rows, columns, cells);
-            let safe = start_safe(rows, columns, row, column, cells);
-            let last = first_refusal(safe, Refusal::StartMine, Tested::Accepted);
-            let later = first_refusal(numbers, Refusal::Number, last);
-            first_refusal(start, Refusal::Start, later)
-        }
+    test_cells(1, rows, columns, 255, 255, cells)?;
+    if !start_ok(rows, columns, row, column) {
+        return Err(Refusal::Start);
     }
+    if !numbers_ok(edgeless, rows, columns, cells) {
+        return Err(Refusal::Number);
+    }
+    if cells[start_cell(rows, columns, row, column)] == 255 {
+        return Err(Refusal::StartMine);
+    }
+    Ok(())
 }
 
 // The tests of a call on a position.
-pub fn test_position(rows: usize, columns: usize, position: &[u8]) -> Tested
+pub fn test_position(rows: usize, columns: usize, position: &[u8]) -> Result<(), Refusal>
     ensures { result ≡ position_tested rows columns position.now }
 {
     test_cells(1, rows, columns, 10, 12, position)
@@ -244,37 +209,30 @@ pub fn test_deduction(
     position: &[u8],
     safe: usize,
     mines: usize,
-) -> Tested
+) -> Result<(), Refusal>
     ensures { result ≡ deduction_tested rows columns position.now safe mines }
 {
-    if size_ok(1, rows, columns) {
-        if !room_ok(rows, columns, safe) {
-            return Tested::Refused(Refusal::Length);
-        }
-        if !room_ok(rows, columns, mines) {
-            return Tested::Refused(Refusal::Length);
-        }
+    if size_ok(1, rows, columns) && !lists_ok(rows, columns, safe, mines) {
+        return Err(Refusal::Length);
     }
     test_position(rows, columns, position)
 }
 
 // The tests of the pattern call, which looks at mines only.
-pub fn test_pattern(rows: usize, columns: usize, cells: &[u8]) -> Tested
+pub fn test_pattern(rows: usize, columns: usize, cells: &[u8]) -> Result<(), Refusal>
     ensures { result ≡ pattern_tested rows columns cells.now }
 {
     test_cells(3, rows, columns, 255, 255, cells)
 }
 
 // The tests of the 3BV call, which has no start.
-pub fn test_bbbv(edgeless: bool, rows: usize, columns: usize, cells: &[u8]) -> Tested
-    ensures { result ≡ bbbv_tested edgeless rows columns cells.now }
+pub fn test_bbbv(edgeless: bool, rows: usize, columns: usize, board: &[u8]) -> Result<(), Refusal>
+    ensures { result ≡ bbbv_tested edgeless rows columns board.now }
 {
-    let first = test_cells(1, rows, columns, 255, 255, cells);
-    match first {
-        Tested::Refused(refusal) => Tested::Refused(refusal),
-        Tested::Accepted => {
-            let right = numbers_ok(edgeless, rows, columns, cells);
-            first_refusal(right, Refusal::Number, Tested::Accepted)
-        }
+    test_cells(1, rows, columns, 255, 255, board)?;
+    if numbers_ok(edgeless, rows, columns, board) {
+        Ok(())
+    } else {
+        Err(Refusal::Number)
     }
 }

@@ -7,8 +7,6 @@ use Prim.Native.Nat.{ℕ, ◌-◌, ◌≤◌}
 use native.Mathlib.Omega.{arith}
 use lib.ListN.{length, take}
 use Rattle.lists.proofs.Joined.{read_range}
-use Rattle.refusals.specs.declared.Tested.{Tested}
-use Rattle.refusals.specs.declared.Tested.TheVariants.{Accepted}
 use Rattle.deductions.specs.Answers.{Seen}
 use Rattle.deductions.specs.ByRule.{Readable}
 use Rattle.deductions.specs.declared.Rule.{Rule}
@@ -20,6 +18,7 @@ use Rattle.lines.specs.declared.Line.{Line}
 use Rattle.lines.specs.Lines.{line_of}
 use Rattle.lines.proofs.Answered.{readable_written}
 use Rattle.rule_lines.specs.Deductions.{found_text, left_text, text_after, deduction_text, called_on, deduction_line}
+use Rattle.refusals.specs.Refusals.{Accepted, Tested}
 
 -- ---- what a rule found
 

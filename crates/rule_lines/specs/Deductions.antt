@@ -1,10 +1,8 @@
 -- Cited by no public contract. The answers of the calls that deduce to a line: `safe 1,5 mine 5 pos 0 12 0 1 1 11`, behind it the blocks left, ` blocks 0`,
 -- where the rule hands them out; `refused 6`, or `unreadable`. Each list that is lent has room for 1024 cells. Assumes nothing.
-use Rattle.std.specs.Prelude.{Bool, true, false, cond, List, [], ◌∷◌, ◌++◌, ℕ, take, replicate}
+use Rattle.std.specs.Prelude.{Err, Bool, true, false, cond, List, [], ◌∷◌, ◌++◌, ℕ, take, replicate, Ok}
 use Rattle.grid.specs.Window.{flat}
-use Rattle.refusals.specs.declared.Tested.{Tested}
-use Rattle.refusals.specs.declared.Tested.TheVariants.{Accepted, Refused}
-use Rattle.refusals.specs.Refusals.{refusal_number}
+use Rattle.refusals.specs.Refusals.{Accepted, Tested, refusal_number}
 use Rattle.blocks.specs.declared.BlockSet.{BlockSet}
 use Rattle.blocks.specs.BlockSets.{blocks_of}
 use Rattle.deductions.specs.Answers.{Seen, deduction}
@@ -44,8 +42,8 @@ abbrev pub left_text : Rule → BlockSet → List ℕ
 left_text rule set = cond (leaves_blocks rule) (32 ∷ blocks_text (blocks_of set)) []
 
 abbrev pub text_after : Rule → Tested → Seen → List ℕ
-text_after rule (Refused r) w = refused_text (refusal_number r)
-text_after rule Accepted w = found_text w ++ left_text rule w.answer.blocks
+text_after rule (Err r) w = refused_text (refusal_number r)
+text_after rule (Ok _) w = found_text w ++ left_text rule w.answer.blocks
 
 -- what the caller of a rule sees, as text
 unfoldable pub deduction_text : Rule → Seen → List ℕ

@@ -14,7 +14,6 @@ use deductions::answer::DeductionAnswer;
 use deductions::{Rule, deduce};
 use grid::window::FLAT;
 use lines::read_line;
-use refusals::Tested;
 use show::{put_blocks, put_cells, put_numbers, put_refused};
 use text::put_bytes;
 
@@ -76,8 +75,8 @@ fn put_deduction(
 {
     let tested = answer.tested;
     match tested {
-        Tested::Refused(refusal) => put_refused(out, refusal),
-        Tested::Accepted => {
+        Err(refusal) => put_refused(out, refusal),
+        Ok(()) => {
             let at = put_found(out, &answer, position, safe, mines);
             let left = answer.blocks;
             put_left(out, at, rule, left)

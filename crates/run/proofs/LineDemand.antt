@@ -6,7 +6,6 @@ use mathlib.Core.List.{List, [], ◌∷◌}
 use Prim.Native.Nat.{ℕ}
 use lib.ListN.{length, replicate, length-replicate}
 use Rattle.grid.specs.Window.{flat, neighbours}
-use Rattle.refusals.specs.declared.Tested.TheVariants.{Accepted}
 use Rattle.refusals.specs.Tests.{board_tested, start_cell}
 use Rattle.refusals.specs.declared.Refusal.TheVariants.{Mark}
 use Rattle.records.specs.declared.BoardMark.{BoardMark}
@@ -17,6 +16,7 @@ use Rattle.verdict.proofs.DemandThree.{answer_demand_3}
 use Rattle.verdict.proofs.Bounds.{GradeTells, refusal_tells, grade_tells}
 use Rattle.verdict.proofs.TotalAnswers.{TotalGradeTells, total_grade_tells, total_answer_demand_3}
 use Rattle.record_lines.specs.Answers.{picture_size, board_verdict}
+use Rattle.refusals.specs.Refusals.{Accepted}
 
 -- what the grade in a line tells: that of a yes is at most 3, and where the mine total is known at most 5
 abbrev pub LineGrade : BoardMark → Verdict → Type 0

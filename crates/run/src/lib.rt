@@ -11,7 +11,7 @@ ghost use Rattle.run.specs.Steps.{next_after_end, next_after_damage, next_of, no
 
 use record_lines::{board_verdict, put_line};
 use records::{Record, read_record, record_length};
-use refusals::{Refusal, refusal_number};
+use refusals::Refusal;
 use text::put_bytes;
 use verdict::Verdict;
 
@@ -78,7 +78,7 @@ fn next_after_damage(refusal: Refusal, ended: bool) -> Next
     if ended {
         return Next::Damage(refusal);
     }
-    if refusal_number(refusal) == 11 {
+    if refusal == Refusal::Short {
         return Next::Waits;
     }
     Next::Damage(refusal)

@@ -13,7 +13,7 @@ ghost use Rattle.show.specs.Refusals.{refused_text};
 
 use blocks::{BlockSet, begin_at, slots_at};
 use grid::window::{wide, wide_byte};
-use refusals::{Refusal, refusal_number};
+use refusals::Refusal;
 use text::{put_byte, put_bytes, put_number};
 
 // A byte and a number behind it.
@@ -195,5 +195,5 @@ pub fn put_refused(out: &mut [u8], refusal: Refusal) -> usize
     ensures { Written out.old 0 (refused_text (refusal_number refusal)) out.new result }
 {
     let word = put_bytes(out, 0, b"refused ");
-    put_number(out, word, refusal_number(refusal) as usize)
+    put_number(out, word, u8::from(refusal) as usize)
 }

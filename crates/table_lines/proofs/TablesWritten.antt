@@ -1,6 +1,7 @@
 -- The writes that make up the text of solution tables: the rows of a table, a block's table, and the tables of all blocks; and that the rows which the call
 -- answers stand inside the lent table. Rests on the laws of texts written one behind the other (the crate text) and of the answer to a line (the crate lines).
 -- Assumes nothing.
+use Rattle.std.specs.Prelude.{Ok, Err}
 use mathlib.Core.Path.{◌≡◌, refl, sym, ap, subst}
 use mathlib.Core.Bool.{Bool, true, false, cond}
 use mathlib.Core.List.{List, [], ◌∷◌, ◌++◌, map}
@@ -14,8 +15,6 @@ use borrow.Author.Tests.{leb-true}
 use Rattle.lists.specs.Lists.{range, joined}
 use Rattle.grid.specs.Window.{flat, neighbours}
 use Rattle.refusals.specs.declared.Refusal.TheVariants as refusal
-use Rattle.refusals.specs.declared.Tested.{Tested}
-use Rattle.refusals.specs.declared.Tested.TheVariants as test
 use Rattle.refusals.specs.Tests.{position_tested}
 use Rattle.blocks.specs.Blocks.{Block}
 use Rattle.frontier.specs.declared.FrontierAnswer.{FrontierAnswer}
@@ -33,6 +32,7 @@ use Rattle.lines.specs.Lines.{line_of}
 use Rattle.lines.proofs.Answered.{readable_written}
 use Rattle.frontier_lines.specs.Frontier.{answer_to}
 use Rattle.table_lines.specs.Tables.{rows_of, next_row, rows_text, no_table_text, table_text, RowsWithin, seen_text, block_table, tables_text, tables_after, table_line}
+use Rattle.refusals.specs.Refusals.{Tested}
 
 -- ---- rows
 
@@ -116,8 +116,8 @@ module _ (rows columns : ℕ) (p : List ℕ) (n : ℕ) (t : List ℕ) where
       asked = block_asked (frontier (neighbours flat rows columns) p) n t
 
       go : (x : Tested) → RowsWithin (table_after_tests x asked t).answer (table_after_tests x asked t).table
-      go test.Accepted = asked_within (frontier (neighbours flat rows columns) p) n t
-      go (test.Refused r) = omega arith
+      go (Ok _) = asked_within (frontier (neighbours flat rows columns) p) n t
+      go (Err r) = omega arith
 
   pub seen_within : {a : TableAnswer} {after : List ℕ} → table_seen a after ≡ cal_all_solution flat rows columns p n t → RowsWithin a after
   seen_within e = subst (λ (w : TableSeen). RowsWithin w.answer w.table) (sym e) call_within

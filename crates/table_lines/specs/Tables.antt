@@ -1,12 +1,10 @@
 -- Cited by no public contract. The answers of cal_all_solution to a line: `blocks 2 [groups 3 solutions 2 rows 0 1 0 / 1 0 1] [refused 9]`, `refused 2`, or
 -- `unreadable`. Each block of the position is asked for with a fresh table of 16,384 bytes, and its rows are read off the table's front as the caller sees it.
 -- Assumes nothing.
-use Rattle.std.specs.Prelude.{cond, List, [], ◌∷◌, ◌++◌, map, ℕ, ◌*◌, ◌≤◌, eqb, length, take, replicate}
+use Rattle.std.specs.Prelude.{cond, List, [], ◌∷◌, ◌++◌, map, ℕ, ◌*◌, ◌≤◌, eqb, length, take, replicate, Ok, Err}
 use Rattle.grid.specs.Window.{flat}
 use Rattle.lists.specs.Lists.{range, joined}
-use Rattle.refusals.specs.declared.Tested.{Tested}
-use Rattle.refusals.specs.declared.Tested.TheVariants as test
-use Rattle.refusals.specs.Refusals.{refusal_number}
+use Rattle.refusals.specs.Refusals.{Tested, refusal_number}
 use Rattle.tables.specs.declared.TableAnswer.{TableAnswer}
 use Rattle.tables.specs.Tables.{table_number, table_solutions, table_groups, TableSeen, row_at, cal_all_solution}
 use Rattle.text.specs.Text.{decimal}
@@ -76,8 +74,8 @@ tables_text rows columns p n = (98 ∷ 108 ∷ 111 ∷ 99 ∷ 107 ∷ 115 ∷ 32
 
 -- by the answer of the tests; n is the number of blocks that refresh_matrixs answers
 abbrev pub tables_after : Tested → Line → ℕ → List ℕ
-tables_after (test.Refused r) l n = refused_text (refusal_number r)
-tables_after test.Accepted l n = tables_text l.rows l.columns (take l.len l.cells) n
+tables_after (Err r) l n = refused_text (refusal_number r)
+tables_after (Ok _) l n = tables_text l.rows l.columns (take l.len l.cells) n
 
 -- the answers to a line: `blocks 0` where its position has no block
 unfoldable pub table_line : List ℕ → List ℕ

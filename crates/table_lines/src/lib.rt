@@ -14,7 +14,6 @@ ghost use Rattle.table_lines.specs.Tables.{next_row, rows_of, rows_text, no_tabl
 use frontier::refresh_matrixs;
 use grid::window::FLAT;
 use lines::read_line;
-use refusals::{Tested, refusal_number};
 use show::{put_cells, put_refused};
 use tables::{TableAnswer, cal_all_solution};
 use text::{put_byte, put_bytes, put_number};
@@ -94,7 +93,7 @@ fn put_table(out: &mut [u8], at: usize, answer: TableAnswer, table: &[u8]) -> us
     ensures { Written out.old at (table_text answer table.now) out.new result }
 {
     match answer {
-        TableAnswer::Refused(refusal) => put_no_table(out, at, refusal_number(refusal) as usize),
+        TableAnswer::Refused(refusal) => put_no_table(out, at, u8::from(refusal) as usize),
         TableAnswer::Listed(solutions, groups) => put_listed(out, at, table, groups, solutions),
     }
 }
@@ -141,8 +140,8 @@ pub fn table_line(line: &[u8], out: &mut [u8]) -> usize
     let answer = refresh_matrixs(FLAT, read.rows, read.columns, &cells[..len]);
     let tested = answer.tested;
     match tested {
-        Tested::Refused(refusal) => put_refused(out, refusal),
-        Tested::Accepted => put_tables(
+        Err(refusal) => put_refused(out, refusal),
+        Ok(()) => put_tables(
             out,
             read.rows,
             read.columns,

@@ -1,6 +1,7 @@
 -- What specs/Listed.antt says of cal_all_solution, from the equation that the call ensures. The call refuses, or the front of the table is the rows of `solutions`, which
 -- are read back from it one by one: so what holds of these rows holds of the table. Rests on ListedSolutions and GroupRows of the crate search, and RowsOfOneWidth.
 -- Assumes nothing.
+use Rattle.std.specs.Prelude.{Ok, Err}
 use mathlib.Core.Path.{◌≡◌, refl, sym, ap, ◌∙◌}
 use mathlib.Core.Logic.{◌⊎◌, inl, inr}
 use mathlib.Core.Bool.{Bool, true, false, ◌&&◌}
@@ -19,8 +20,6 @@ use Rattle.lists.proofs.PlacesAndRanges.{mem_place}
 use Rattle.grid.specs.Window.{neighbours}
 use Rattle.refusals.specs.declared.Refusal.{Refusal}
 use Rattle.refusals.specs.declared.Refusal.TheVariants as refusal
-use Rattle.refusals.specs.declared.Tested.{Tested}
-use Rattle.refusals.specs.declared.Tested.TheVariants as test
 use Rattle.refusals.specs.Tests.{position_tested}
 use Rattle.refusals.proofs.FirstFailure.{not_both}
 use Rattle.refusals.proofs.RefusalNumbers.{refusal_numbered}
@@ -39,6 +38,7 @@ use Rattle.tables.specs.Listed.{asked_block, Accepts, ListedTable, TableCall}
 use Rattle.tables.specs.declared.TableAnswer.{TableAnswer}
 use Rattle.tables.specs.declared.TableAnswer.TheVariants.{Refused, Listed}
 use Rattle.tables.proofs.RowsOfOneWidth.{row_back, behind_kept, places_differ}
+use Rattle.refusals.specs.Refusals.{Tested, Accepted}
 
 -- ---- the solutions at the front of a table
 
@@ -88,12 +88,12 @@ module _ (edgeless : Bool) (rows columns : ℕ) (p : List ℕ) (k : ℕ) (t : Li
   asked = asked_block edgeless rows columns p k
 
   -- the tests refuse
-  pub tests_refuse : (x : Refusal) → position_tested rows columns p ≡ test.Refused x → table_refused x t ≡ cal_all_solution edgeless rows columns p k t
+  pub tests_refuse : (x : Refusal) → position_tested rows columns p ≡ Err x → table_refused x t ≡ cal_all_solution edgeless rows columns p k t
   unfolding cal_all_solution
   tests_refuse x h = rw h
 
   -- the tests accept
-  pub tests_accept : position_tested rows columns p ≡ test.Accepted → block_asked bs k t ≡ cal_all_solution edgeless rows columns p k t
+  pub tests_accept : position_tested rows columns p ≡ Accepted → block_asked bs k t ≡ cal_all_solution edgeless rows columns p k t
   unfolding cal_all_solution
   tests_accept h = rw h
 
@@ -113,14 +113,14 @@ module _ (edgeless : Bool) (rows columns : ℕ) (p : List ℕ) (k : ℕ) (t : Li
       area : ℕ
       area = length (solutions asked) * length (firsts asked)
 
-      next : position_tested rows columns p ≡ test.Accepted → Decided (ltb k (length bs)) → Decided (leb area (length t)) → Outcome
+      next : position_tested rows columns p ≡ Accepted → Decided (ltb k (length bs)) → Decided (leb area (length t)) → Outcome
       next e (inr a) _ = inl (refusal.Block, (λ h. clash (ltb k (length bs)) (lt-ltb k (length bs) h.there) a), rw (e, a))
       next e (inl a) (inr l) = inl (refusal.Table, (λ h. clash (leb area (length t)) (le-leb area (length t) h.room) l), rw (e, a, l))
       next e (inl a) (inl l) = inr (record { tests = e; there = ltb-true k (length bs) a; room = leb-true area (length t) l }, rw (e, a, l))
 
       first : (v : Tested) → position_tested rows columns p ≡ v → Outcome
-      first (test.Refused x) e = inl (x, (λ h. not_both (position_tested rows columns p) x h.tests e), rw e)
-      first test.Accepted e = next e (decided (ltb k (length bs))) (decided (leb area (length t)))
+      first (Err x) e = inl (x, (λ h. not_both (position_tested rows columns p) x h.tests e), rw e)
+      first (Ok _) e = next e (decided (ltb k (length bs))) (decided (leb area (length t)))
 
   module _ (r : TableAnswer) (t' : List ℕ) (call : table_seen r t' ≡ cal_all_solution edgeless rows columns p k t) where
     pub table_call : TableCall edgeless rows columns p k t (table_number r) (table_solutions r) (table_groups r) t'

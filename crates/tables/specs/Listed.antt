@@ -2,10 +2,10 @@
 -- accepted call is the solutions of the block asked for, a row of a byte per group for each: every solution once, in the order of the groups' weights. Throughout, p is
 -- the position, k the number of the block asked for, t the table as it was lent and t' the table after the call; `number` is 0 or the refusal's number, n counts
 -- the solutions and g the groups. Assumes nothing.
+use Rattle.refusals.specs.Refusals.{Accepted}
 use Rattle.std.specs.Prelude.{◌≡◌, ◌≢◌, ◌↔◌, Bool, true, List, [], map, ℕ, ◌*◌, ◌≤◌, ◌<◌, length, get_or}
 use Rattle.lists.specs.Lists.{range}
 use Rattle.grid.specs.Window.{neighbours}
-use Rattle.refusals.specs.declared.Tested.TheVariants as test
 use Rattle.refusals.specs.Tests.{position_tested}
 use Rattle.blocks.specs.Blocks.{Block}
 use Rattle.frontier.specs.Frontier.{frontier}
@@ -21,7 +21,7 @@ asked_block edgeless rows columns p k = get_or (frontier (neighbours edgeless ro
 -- what nothing is refused for
 pub record Accepts (edgeless : Bool) (rows columns : ℕ) (p : List ℕ) (k : ℕ) (t : List ℕ) : Type 0 where
   -- refusals 1 to 3: size, length and cells are as they should be
-  pub tests : position_tested rows columns p ≡ test.Accepted
+  pub tests : position_tested rows columns p ≡ Accepted
   -- 8: the block asked for is below the block count
   pub there : k < length (frontier (neighbours edgeless rows columns) p)
   -- 9: solutions × groups is within the lent table's length

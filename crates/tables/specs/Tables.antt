@@ -1,14 +1,12 @@
 -- cal_all_solution as a call on a position (SPECIFICATION 11, and refusals 8 and 9 of 3.1): the table of one block of the fresh frontier. Its rows stand at the
 -- front of the lent table, one after another, a byte for each group; the bytes past the last row keep their values, and a refusal leaves all. Assumes nothing.
-use Rattle.std.specs.Prelude.{Bool, cond, List, [], ◌∷◌, ℕ, ◌*◌, leb, ltb, length, get_or, take, drop}
+use Rattle.std.specs.Prelude.{Bool, cond, List, [], ◌∷◌, ℕ, ◌*◌, leb, ltb, length, get_or, take, drop, Ok, Err}
 use Rattle.std.proofs.lemmas.List.Edits.{sets}
 use Rattle.lists.specs.Lists.{joined}
 use Rattle.grid.specs.Window.{neighbours}
 use Rattle.refusals.specs.declared.Refusal.{Refusal}
 use Rattle.refusals.specs.declared.Refusal.TheVariants as refusal
-use Rattle.refusals.specs.declared.Tested.{Tested}
-use Rattle.refusals.specs.declared.Tested.TheVariants as test
-use Rattle.refusals.specs.Refusals.{refusal_number}
+use Rattle.refusals.specs.Refusals.{Tested, refusal_number}
 use Rattle.refusals.specs.Tests.{position_tested}
 use Rattle.blocks.specs.Blocks.{Block}
 use Rattle.frontier.specs.Frontier.{frontier}
@@ -63,8 +61,8 @@ block_asked bs n t = cond (ltb n (length bs)) (table_of (get_or bs n (record { c
 
 -- refusals 1 to 3 first
 abbrev pub table_after_tests : Tested → TableSeen → List ℕ → TableSeen
-table_after_tests test.Accepted w t = w
-table_after_tests (test.Refused r) w t = table_refused r t
+table_after_tests (Ok _) w t = w
+table_after_tests (Err r) w t = table_refused r t
 
 unfoldable pub cal_all_solution : Bool → ℕ → ℕ → List ℕ → ℕ → List ℕ → TableSeen
 cal_all_solution edgeless rows columns p n t = table_after_tests (position_tested rows columns p) (block_asked (frontier (neighbours edgeless rows columns) p) n t) t

@@ -17,7 +17,7 @@ use blocks::{BlockSet, Bounds, bounds_at};
 use frontier::read_blocks;
 use groups::{Grouped, combine};
 use orders::weigh;
-use refusals::{Refusal, Tested, test_position};
+use refusals::{Refusal, test_position};
 use rows::put_rows;
 use search::spend;
 
@@ -135,7 +135,7 @@ pub fn cal_all_solution(
         (table_number result) (table_solutions result) (table_groups result) table.new }
 {
     match test_position(rows, columns, position) {
-        Tested::Refused(refusal) => TableAnswer::Refused(refusal),
-        Tested::Accepted => put_asked(read_blocks(edgeless, rows, columns, position), block, table),
+        Err(refusal) => TableAnswer::Refused(refusal),
+        Ok(()) => put_asked(read_blocks(edgeless, rows, columns, position), block, table),
     }
 }

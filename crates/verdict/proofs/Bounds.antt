@@ -1,5 +1,6 @@
 -- Rounds and grade of a verdict, for every input: rounds never exceed the cells of the board; the grade is 4 exactly where the verdict is no, and a yes has the
 -- grade of a rule, or 0 where no pass found a cell. A refusal has neither. Rests on `rounds_cells`, `grade_of_a_rule` and `grade_zero` of the crate fitting. Assumes nothing.
+use Rattle.std.specs.Prelude.{Ok}
 use mathlib.Core.Path.{◌≡◌, refl, sym, ap}
 use mathlib.Core.Logic.{inl, inr, ◌↔◌, ◌≢◌}
 use mathlib.Core.Bool.{Bool, true, false}
@@ -11,9 +12,7 @@ use borrow.Author.Tests.{eqb-false}
 use Rattle.lists.proofs.Tests.{Decided, decided, clash}
 use Rattle.grid.specs.Window.{neighbours}
 use Rattle.refusals.specs.declared.Refusal.{Refusal}
-use Rattle.refusals.specs.declared.Tested.{Tested}
-use Rattle.refusals.specs.declared.Tested.TheVariants.{Accepted, Refused as TestRefused}
-use Rattle.refusals.specs.Refusals.{refusal_number}
+use Rattle.refusals.specs.Refusals.{Accepted, Tested, refusal_number}
 use Rattle.refusals.specs.Tests.{board_tested, start_cell}
 use Rattle.refusals.proofs.Accepted.{accepted_board}
 use Rattle.refusals.proofs.FirstFailure.{refusal_not_zero}
@@ -109,7 +108,7 @@ module _ (edgeless : Bool) (rows columns row column : ℕ) (b shown opened_in : 
   grade_tells = go tests
     where
       go : (t : Tested) → GradeTells (verdict_after_tests t judged shown opened_in).answer
-      go Accepted = judged_grade (neighbours edgeless rows columns) b (start_cell columns row column)
+      go (Ok _) = judged_grade (neighbours edgeless rows columns) b (start_cell columns row column)
       go (TestRefused x) = refusal_tells 3 x
 
   -- rounds never exceed the cells
@@ -118,7 +117,7 @@ module _ (edgeless : Bool) (rows columns row column : ℕ) (b shown opened_in : 
   rounds_at_most_cells = go tests refl
     where
       go : (t : Tested) → tests ≡ t → verdict_rounds (verdict_after_tests t judged shown opened_in).answer ≤ length b
-      go Accepted e =
+      go (Ok _) e =
           let accepted = accepted_board edgeless rows columns row column b lent e in
           rounds_cells (neighbours edgeless rows columns) (layouts_of false b) b (three_rules (neighbours edgeless rows columns)) (start_cell columns row column)
           (tested_accepted edgeless rows columns row column b lent e) (own_passes false b) accepted.start_within accepted.start_safe_lem (rules_sound edgeless rows columns b false)

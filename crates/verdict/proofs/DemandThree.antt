@@ -8,8 +8,6 @@ use lib.ListN.{length}
 use Rattle.lists.proofs.Tests.{bit_is_one}
 use Rattle.grid.specs.Window.{neighbours}
 use Rattle.refusals.specs.declared.Refusal.{Refusal}
-use Rattle.refusals.specs.declared.Tested.{Tested}
-use Rattle.refusals.specs.declared.Tested.TheVariants.{Accepted, Refused as TestRefused}
 use Rattle.refusals.specs.Tests.{board_tested, start_cell}
 use Rattle.refusals.proofs.Accepted.{accepted_board}
 use Rattle.fitting.specs.Passes.{Ending, judge}
@@ -21,6 +19,7 @@ use Rattle.verdict.specs.declared.Verdict.TheVariants.{Refused}
 use Rattle.verdict.specs.Verdict.{VerdictSeen, verdict_seen, judged_from, verdict_after_tests, is_solvable, MeetsDemand3}
 use Rattle.verdict.proofs.KindsOfBoard.{own_passes, rules_sound, rules_complete}
 use Rattle.refusals.proofs.Admitted.{tested_accepted}
+use Rattle.refusals.specs.Refusals.{Accepted, Tested}
 
 -- after the tests: a refusal is the answer, and both slices stay as they were; a board that they accept is judged
 pub after_refusal : (t : Tested) (w : VerdictSeen) (shown opened_in : List ℕ) (x : Refusal) → t ≡ TestRefused x → verdict_seen (Refused x) shown opened_in ≡ verdict_after_tests t w shown opened_in

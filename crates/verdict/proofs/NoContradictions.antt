@@ -9,7 +9,6 @@ use lib.ListN.{length}
 use Rattle.grid.specs.Cells.{cell_of}
 use Rattle.grid.specs.Window.{neighbours}
 use Rattle.grid.proofs.Neighbours.{neighbours_nodup, neighbours_few}
-use Rattle.refusals.specs.declared.Tested.TheVariants.{Accepted}
 use Rattle.refusals.specs.Tests.{board_tested, start_cell}
 use Rattle.refusals.proofs.Accepted.{accepted_board}
 use Rattle.fitting.specs.Layouts.{Fits, any_layout}
@@ -28,6 +27,7 @@ use Rattle.enumeration.specs.ThreeRules.{three_rules}
 use Rattle.enumeration.proofs.Completeness.{enumeration_sound_at}
 use Rattle.verdict.proofs.KindsOfBoard.{rules_sound}
 use Rattle.refusals.proofs.Admitted.{tested_accepted}
+use Rattle.refusals.specs.Refusals.{Accepted}
 
 -- the positions that the passes from the start s come to
 pub data OnTheWay (near : ℕ → List ℕ) (b : List ℕ) (rule : List ℕ → GradedCells) (s : ℕ) : List ℕ → Type 0 where

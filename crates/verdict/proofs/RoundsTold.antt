@@ -9,7 +9,6 @@ use native.Mathlib.Omega.{arith}
 use lib.ListN.{length, get_or}
 use Rattle.grid.specs.Window.{neighbours}
 use Rattle.grid.proofs.Places.{few_cells}
-use Rattle.refusals.specs.declared.Tested.TheVariants.{Accepted}
 use Rattle.refusals.specs.Tests.{board_tested, start_cell}
 use Rattle.refusals.proofs.Accepted.{accepted_board}
 use Rattle.fitting.specs.Passes.{judge}
@@ -23,6 +22,7 @@ use Rattle.verdict.specs.Verdict.{verdict_rounds, VerdictSeen, verdict_seen, is_
 use Rattle.verdict.proofs.KindsOfBoard.{own_passes, rules_sound}
 use Rattle.refusals.proofs.Admitted.{tested_accepted}
 use Rattle.verdict.proofs.DemandThree.{tests_accept}
+use Rattle.refusals.specs.Refusals.{Accepted}
 
 module _ (edgeless : Bool) (rows columns row column : ℕ) (b shown opened_in : List ℕ)
     (tests : board_tested edgeless rows columns row column b (length shown ∷ length opened_in ∷ []) ≡ Accepted) where

@@ -1,5 +1,6 @@
 -- What a caller may rely on of the verdict of a board that shows its mine total: demand 3 with the layouts of that total, what the grade tells, and what the rounds of
 -- the cells tell; and beside the plain verdict of the same board no less is opened. Rests on DemandThree, Bounds and RoundsTold. Assumes nothing.
+use Rattle.std.specs.Prelude.{Ok}
 use mathlib.Core.Path.{◌≡◌, refl, ap, ◌∙◌}
 use mathlib.Core.Logic.{◌≢◌, inl, inr}
 use mathlib.Core.Bool.{true}
@@ -11,8 +12,6 @@ use borrow.Author.Tests.{eqb-false}
 use Rattle.lists.proofs.Tests.{Decided, decided, bit_is_one}
 use Rattle.grid.specs.Cells.{shows}
 use Rattle.grid.specs.Window.{flat, neighbours}
-use Rattle.refusals.specs.declared.Tested.{Tested}
-use Rattle.refusals.specs.declared.Tested.TheVariants.{Accepted, Refused as TestRefused}
 use Rattle.refusals.specs.Tests.{board_tested, start_cell}
 use Rattle.refusals.proofs.Accepted.{accepted_board}
 use Rattle.fitting.specs.Demand.{opened}
@@ -29,6 +28,7 @@ use Rattle.refusals.proofs.Admitted.{tested_accepted}
 use Rattle.verdict.proofs.DemandThree.{after_acceptance, passes_demand_3, answer_demand_3}
 use Rattle.verdict.proofs.Bounds.{three_grades, GradeTellsUpTo, board_grade_tells, refusal_tells}
 use Rattle.verdict.proofs.RoundsTold.{judged_round}
+use Rattle.refusals.specs.Refusals.{Accepted, Tested}
 
 -- the four rules have the grades 1, 2, 3 and 5
 pub four_grades : (near : ℕ → List ℕ) (b p : List ℕ) → (1 ≤ (four_rules near b p).grade) × (((four_rules near b p).grade ≤ 5) × ((four_rules near b p).grade ≢ 4))
@@ -62,7 +62,7 @@ module _ (rows columns row column : ℕ) (b shown opened_in : List ℕ) where
   total_grade_tells = go tests
     where
       go : (t : Tested) → TotalGradeTells (verdict_after_tests t judged shown opened_in).answer
-      go Accepted =
+      go (Ok _) =
           board_grade_tells 5 ends.yes (opened ends.position) ends.grade ends.rounds
           (grade_of_a_rule near b (four_rules near b) (start_cell columns row column) (λ g. (g ≤ 5) × (g ≢ 4)) (omega arith, λ e. omega (arith, e)) (λ p _. (four_grades near b p).1))
           (grade_zero near b (four_rules near b) (start_cell columns row column) (λ p _. (four_grades near b p).0))

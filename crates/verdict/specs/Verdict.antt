@@ -1,11 +1,9 @@
 -- The verdict as a caller sees it (SPECIFICATION 4.2, 4.4 and 9): refusals 1 to 5 and 13; else the passes over the board's rules from the start's cell, which is safe,
 -- the picture of the position that they end with, and the round in which each cell was opened. A no has the grade 4. Assumes nothing.
-use Rattle.std.specs.Prelude.{◌≡◌, Bool, cond, List, [], ◌∷◌, ℕ, eqb, length, get_or}
+use Rattle.std.specs.Prelude.{◌≡◌, Bool, cond, List, [], ◌∷◌, ℕ, eqb, length, get_or, Ok}
 use Rattle.lists.specs.Lists.{bit}
 use Rattle.grid.specs.Window.{flat, neighbours}
-use Rattle.refusals.specs.declared.Tested.{Tested}
-use Rattle.refusals.specs.declared.Tested.TheVariants.{Accepted, Refused as TestRefused}
-use Rattle.refusals.specs.Refusals.{refusal_number}
+use Rattle.refusals.specs.Refusals.{Accepted, Tested, refusal_number}
 use Rattle.refusals.specs.Tests.{board_tested, start_cell}
 use Rattle.fitting.specs.Passes.{GradedCells, Ending, judge}
 use Rattle.rounds.specs.Rounds.{judge_rounds}
@@ -68,7 +66,7 @@ judged_from near b s = judged_by near b (three_rules near) s
 
 -- the tests first; a refusal leaves both slices as they were
 abbrev pub verdict_after_tests : Tested → VerdictSeen → List ℕ → List ℕ → VerdictSeen
-verdict_after_tests Accepted w shown opened_in = w
+verdict_after_tests (Ok _) w shown opened_in = w
 verdict_after_tests (TestRefused r) w shown opened_in = verdict_seen (Refused r) shown opened_in
 
 unfoldable pub is_solvable : Bool → ℕ → ℕ → ℕ → ℕ → List ℕ → List ℕ → List ℕ → VerdictSeen

@@ -9,7 +9,7 @@ pub mod passes;
 ghost use Rattle.std.specs.Prelude.{◌≡◌, ◌≢◌, [], ◌∷◌, ◌*◌, ◌<◌, length, replicate};
 ghost use Rattle.grid.specs.Cells.{cell_of};
 ghost use Rattle.grid.specs.Window.{flat, neighbours, Board};
-ghost use Rattle.refusals.specs.declared.Tested.TheVariants.{Accepted as TestAccepted};
+ghost use Rattle.refusals.specs.Refusals.{Accepted as TestAccepted};
 ghost use Rattle.refusals.specs.Tests.{board_tested, start_cell};
 ghost use Rattle.fitting.specs.Boards.{Accepted};
 ghost use Rattle.fitting.specs.Demand.{picture as pictureOf, opened};
@@ -19,7 +19,7 @@ ghost use Rattle.verdict.specs.Verdict.{board_grade, verdict_seen, judged_by, ve
 
 use grid::window::FLAT;
 use passes::run_passes;
-use refusals::{Refusal, Tested, start_cell, test_board};
+use refusals::{Refusal, start_cell, test_board};
 use rounds::no_rounds;
 
 // What the verdict answers: a refusal, or yes or no, the opened cells, the grade and the rounds.
@@ -151,8 +151,8 @@ fn test_and_judge(
         cells,
         &lent,
     ) {
-        Tested::Refused(refusal) => Verdict::Refused(refusal),
-        Tested::Accepted => {
+        Err(refusal) => Verdict::Refused(refusal),
+        Ok(()) => {
             let start = start_cell(rows, columns, start_row, start_column);
             judge(
                 shows_total,

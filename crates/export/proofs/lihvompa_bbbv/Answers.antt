@@ -13,7 +13,7 @@ unfolding bbbv_returned
 returns-in-Refused c =
     let counts = c.args.counts.now in
     let first = by_form (λ (a : BbbvAnswer). bbbv_returned a counts) c.cal_bbbv-answer.ensures.value c.in-Refused.is
-    (values_returned c.refusal_number.ensures (none_laid _)) in record { counts_after = first; bbbv = counted_bbbv _ _ _ counts _ first }
+    (values_returned c.from.ensures (none_laid _)) in record { counts_after = first; bbbv = counted_bbbv _ _ _ counts _ first }
 
 pub returns-in-Counted : goal.returns-in-Counted
 unfolding bbbv_returned

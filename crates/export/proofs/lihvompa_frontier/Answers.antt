@@ -7,16 +7,16 @@ use Rattle.export.proofs.Returning.{three_laid, refusal_returned, acceptance_ret
 use borrow.Author.Rules.{rules}
 use Rattle.export.proofs.lihvompa_frontier.Goals as goal
 
-pub returns-in-Refused : goal.returns-in-Refused
+pub returns-in-Err : goal.returns-in-Err
 unfolding frontier_returned
-returns-in-Refused c =
+returns-in-Err c =
     let counts = c.args.counts.now in
-    refusal_returned _ _ c.in-Refused.is c.refusal_number.ensures
+    refusal_returned _ _ c.in-Err.is c.from.ensures
     ∙ ap (λ (a : FrontierAnswer). frontier_returned a counts) c.refresh_matrixs-answer.ensures
 
-pub returns-in-Accepted : goal.returns-in-Accepted
+pub returns-in-Ok : goal.returns-in-Ok
 unfolding frontier_returned
-returns-in-Accepted c =
+returns-in-Ok c =
     let counts = c.args.counts.now in
-    acceptance_returned _ _ c.in-Accepted.is (three_laid _ _ _ _ c.put_count.ensures c.put_count-in-Accepted.ensures c.put_count-in-Accepted-2.ensures)
+    acceptance_returned _ _ c.in-Ok.is (three_laid _ _ _ _ c.put_count.ensures c.put_count-in-Ok.ensures c.put_count-in-Ok-2.ensures)
     ∙ ap (λ (a : FrontierAnswer). frontier_returned a counts) c.refresh_matrixs-answer.ensures

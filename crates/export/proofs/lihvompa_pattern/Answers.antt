@@ -11,7 +11,7 @@ unfolding pattern_returned
 returns-in-Refused c =
     let counts = c.args.counts.now in
     by_form (λ (a : PatternAnswer). pattern_returned a counts) c.unsolvable_structure-answer.ensures c.in-Refused.is
-    (values_returned c.refusal_number.ensures (none_laid _))
+    (values_returned c.from.ensures (none_laid _))
 
 pub returns-in-NotFound : goal.returns-in-NotFound
 unfolding pattern_returned

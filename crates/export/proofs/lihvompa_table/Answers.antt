@@ -9,7 +9,7 @@ use Rattle.export.proofs.lihvompa_table.Goals as goal
 pub returns-in-Refused : goal.returns-in-Refused
 returns-in-Refused c =
     let call = c.cal_all_solution-answer.ensures in
-    let counts = c.args.counts.now in record { counts_after = table_returned_lem counts call.table_after c.in-Refused.is (values_returned c.refusal_number.ensures (none_laid counts)); listed = λ room. refused_table call.listed counts c.in-Refused.is c.refusal_number.ensures }
+    let counts = c.args.counts.now in record { counts_after = table_returned_lem counts call.table_after c.in-Refused.is (values_returned c.from.ensures (none_laid counts)); listed = λ room. refused_table call.listed counts c.in-Refused.is c.from.ensures }
 
 pub returns-in-Listed : goal.returns-in-Listed
 returns-in-Listed c =

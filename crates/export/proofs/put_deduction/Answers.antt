@@ -3,8 +3,8 @@ use Rattle.export.proofs.Returning.{two_laid, refusal_returned, acceptance_retur
 use borrow.Author.Rules.{rules}
 use Rattle.export.proofs.put_deduction.Goals as goal
 
-pub returns-in-Refused : goal.returns-in-Refused
-returns-in-Refused c = refusal_returned _ _ c.in-Refused.is c.refusal_number.ensures
+pub returns-in-Err : goal.returns-in-Err
+returns-in-Err c = refusal_returned _ _ c.in-Err.is c.from.ensures
 
-pub returns-in-Accepted : goal.returns-in-Accepted
-returns-in-Accepted c = acceptance_returned _ _ c.in-Accepted.is (two_laid _ _ _ c.put_count.ensures c.put_count-in-Accepted.ensures)
+pub returns-in-Ok : goal.returns-in-Ok
+returns-in-Ok c = acceptance_returned _ _ c.in-Ok.is (two_laid _ _ _ c.put_count.ensures c.put_count-in-Ok.ensures)

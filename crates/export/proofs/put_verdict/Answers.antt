@@ -5,7 +5,7 @@ use borrow.Author.Rules.{rules}
 use Rattle.export.proofs.put_verdict.Goals as goal
 
 pub returns-in-Refused : goal.returns-in-Refused
-returns-in-Refused c = rw c.in-Refused.is (c.refusal_number.ensures, none_laid _)
+returns-in-Refused c = rw c.in-Refused.is (c.from.ensures, none_laid _)
 
 pub returns-in-Judged : goal.returns-in-Judged
 returns-in-Judged c =

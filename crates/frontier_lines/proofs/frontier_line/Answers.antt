@@ -26,16 +26,16 @@ pub slice_bounds-refresh_matrixs-end : goal.slice_bounds-refresh_matrixs-end
 slice_bounds-refresh_matrixs-end c = simp length-take (omega (arith, line_fits _ _ c.read_line-read.ensures))
 
 pub put_blocks-requires : goal.put_blocks-requires
-put_blocks-requires c = record { at_in_bounds = written_within c.put_bytes-at-in-Accepted-2.ensures; whole = rw c.refresh_matrixs-answer.ensures (answer_whole _ _ _) }
+put_blocks-requires c = record { at_in_bounds = written_within c.put_bytes-at-in-Ok-2.ensures; whole = rw c.refresh_matrixs-answer.ensures (answer_whole _ _ _) }
 
-pub returns-in-Refused : goal.returns-in-Refused
-returns-in-Refused c =
-    let told = c.in-Refused.is in
+pub returns-in-Err : goal.returns-in-Err
+returns-in-Err c =
+    let told = c.in-Err.is in
     frontier_line_written _ _ c.read_line-read.ensures (not-false _ c.if-not-read.false) _ c.refresh_matrixs-answer.ensures (frontier_written _ told c.put_refused.ensures)
 
-pub returns-in-Accepted : goal.returns-in-Accepted
-returns-in-Accepted c =
+pub returns-in-Ok : goal.returns-in-Ok
+returns-in-Ok c =
     frontier_line_written _ _ c.read_line-read.ensures (not-false _ c.if-not-read.false) _ c.refresh_matrixs-answer.ensures
-    (frontier_written _ c.in-Accepted.is
-    (accepted_frontier c.refresh_matrixs-answer.result c.put_bytes-at.ensures c.put_number-at.ensures c.put_bytes-at-in-Accepted.ensures c.put_number-at-in-Accepted.ensures c.put_bytes-at-in-Accepted-2.ensures
+    (frontier_written _ c.in-Ok.is
+    (accepted_frontier c.refresh_matrixs-answer.result c.put_bytes-at.ensures c.put_number-at.ensures c.put_bytes-at-in-Ok.ensures c.put_number-at-in-Ok.ensures c.put_bytes-at-in-Ok-2.ensures
     c.put_blocks.ensures))

@@ -3,41 +3,41 @@
 use mathlib.Core.Path.{◌≡◌, refl, sym, ◌∙◌}
 use mathlib.Core.Bool.{Bool}
 use borrow.Author.Rules.{rules}
-use Rattle.refusals.specs.declared.Tested.TheVariants.{Accepted}
 use Rattle.refusals.specs.Tests.{pattern_tested}
 use Rattle.refusals.proofs.Accepted.{AcceptedPattern, accepted_pattern}
 use Rattle.patterns.specs.Shapes.{pattern_found}
 use Rattle.patterns.proofs.Places.{found_framed}
 use Rattle.patterns.proofs.Answers.{refused_answer_lem, found_answer, none_answer}
 use Rattle.patterns.proofs.unsolvable_structure.Goals as goal
-use Rattle.patterns.proofs.unsolvable_structure.Goals.{After-pattern_found, In-Accepted}
+use Rattle.patterns.proofs.unsolvable_structure.Goals.{After-pattern_found, In-Ok}
+use Rattle.refusals.specs.Refusals.{Accepted}
 
 -- the tests accept the board
-accepted : (c : In-Accepted)
+accepted : (c : In-Ok)
     → (let a = c.args in pattern_tested a.rows a.columns a.cells.now ≡ Accepted)
-accepted c = sym c.test_pattern-tested.ensures ∙ c.in-Accepted.is
+accepted c = sym c.test_pattern-tested.ensures ∙ c.in-Ok.is
 
 -- so this is known of it
-facts : (c : In-Accepted) → (let a = c.args in AcceptedPattern a.rows a.columns a.cells.now)
+facts : (c : In-Ok) → (let a = c.args in AcceptedPattern a.rows a.columns a.cells.now)
 facts c = accepted_pattern _ _ _ (accepted c)
 
 pub lay-requires : goal.lay-requires
-lay-requires c = record { board_value = refl; board = (facts (goal.at.lay-requires c).In-Accepted).board }
+lay-requires c = record { board_value = refl; board = (facts (goal.at.lay-requires c).In-Ok).board }
 
 pub pattern_found-requires : goal.pattern_found-requires
-pattern_found-requires c = let known = facts (goal.at.pattern_found-requires c).In-Accepted in record { sized = known.board.sized; le_rows = (known.three_rows, known.three_columns) }
+pattern_found-requires c = let known = facts (goal.at.pattern_found-requires c).In-Ok in record { sized = known.board.sized; le_rows = (known.three_rows, known.three_columns) }
 
 -- what the search answers is the definition's
 found : (c : After-pattern_found) {t : Bool} → c.pattern_found.result ≡ t
     → (let a = c.args in pattern_found a.rows a.columns a.cells.now ≡ t)
 found c e =
-    found_framed _ _ (facts (goal.at.After-pattern_found c).In-Accepted).board.sized _ _ c.lay.ensures c.pattern_found.ensures e
+    found_framed _ _ (facts (goal.at.After-pattern_found c).In-Ok).board.sized _ _ c.lay.ensures c.pattern_found.ensures e
 
 pub returns-then-pattern_found : goal.returns-then-pattern_found
-returns-then-pattern_found c = found_answer _ _ _ (accepted (goal.at.returns-then-pattern_found c).In-Accepted) (found (goal.at.returns-then-pattern_found c).After-pattern_found c.if-pattern_found.true)
+returns-then-pattern_found c = found_answer _ _ _ (accepted (goal.at.returns-then-pattern_found c).In-Ok) (found (goal.at.returns-then-pattern_found c).After-pattern_found c.if-pattern_found.true)
 
-pub returns-in-Refused : goal.returns-in-Refused
-returns-in-Refused c = refused_answer_lem _ _ _ (sym c.test_pattern-tested.ensures ∙ c.in-Refused.is)
+pub returns-in-Err : goal.returns-in-Err
+returns-in-Err c = refused_answer_lem _ _ _ (sym c.test_pattern-tested.ensures ∙ c.in-Err.is)
 
 pub returns-else-pattern_found : goal.returns-else-pattern_found
-returns-else-pattern_found c = none_answer _ _ _ (accepted (goal.at.returns-else-pattern_found c).In-Accepted) (found (goal.at.returns-else-pattern_found c).After-pattern_found c.if-pattern_found.false)
+returns-else-pattern_found c = none_answer _ _ _ (accepted (goal.at.returns-else-pattern_found c).In-Ok) (found (goal.at.returns-else-pattern_found c).After-pattern_found c.if-pattern_found.false)

@@ -5,7 +5,7 @@ use Rattle.record_lines.proofs.put_verdict.Goals as goal
 
 pub returns-in-Refused : goal.returns-in-Refused
 returns-in-Refused c =
-    refused_written c.requires c.in-Refused.is c.refusal_number.ensures
+    refused_written c.requires c.in-Refused.is c.from.ensures
     c.put_bytes-word.ensures c.put_number.ensures
 
 pub returns-in-Judged : goal.returns-in-Judged

@@ -1,16 +1,14 @@
--- `cells_ok` meets its contract. The loop's invariant: the cells from i on all pass exactly where all the cells do. Rests on the laws of such a loop
--- over any test and on the contract of `cell_ok`. Assumes nothing.
-use Rattle.lists.proofs.Loops.{all_next, all_fails, all_done}
-use Rattle.refusals.proofs.FirstFailure.{passed, failed}
-use mathlib.Core.Path.{ap}
-use mathlib.Core.Bool.{not}
+-- `cells_ok` meets its contract: the library's test of each element is the definition's. Rests on the contract of `cell_ok`. Assumes nothing.
+use mathlib.Core.Path.{◌∙◌}
+use borrow.Author.Rules.{rules}
+use borrow.Author.Tests.{tests}
+use Rattle.std.proofs.lemmas.Iterator.{YieldsList-from_slice}
+use Rattle.std.proofs.lemmas.Iterator.Search.{all_from_yields_List}
+use Rattle.refusals.specs.SharedTests.{cell_in}
+use Rattle.refusals.proofs.CellValues.{all_listed}
 use Rattle.refusals.proofs.cells_ok.Goals as goal
 
-pub returns-then-not-cell_ok : goal.returns-then-not-cell_ok
-returns-then-not-cell_ok c = all_fails _ _ _ c.loop-i-test.true (failed c.cell_ok.ensures (ap not c.if-not-cell_ok.true)) c.loop-i.invariant
-
-pub loop-i-preserved : goal.loop-i-preserved
-loop-i-preserved c = all_next _ _ _ c.loop-i-test.true (passed c.cell_ok.ensures (ap not c.if-not-cell_ok.false)) c.loop-i.invariant
-
 pub returns : goal.returns
-returns c = all_done _ _ _ c.loop-i-test.false c.loop-i.invariant
+returns c =
+    let a = c.args in
+    all_from_yields_List (cell_in a.low a.high) _ _ _ c.all.ensures.ran (YieldsList-from_slice a.cells.now cc) (λ x b q k. search (rules, tests)) ∙ all_listed (cell_in a.low a.high) a.cells.now

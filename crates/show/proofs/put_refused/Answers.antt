@@ -7,4 +7,4 @@ use Rattle.show.proofs.put_refused.Goals as goal
 pub returns : goal.returns
 returns c =
     written_both (omega arith) c.put_bytes-word.ensures
-    (rw c.refusal_number.ensures at c.put_number.ensures)
+    (rw c.from.ensures at c.put_number.ensures)

@@ -10,7 +10,7 @@ put_listed-requires c = (c.requires.0, rw c.in-Listed.is at c.requires.1)
 
 pub returns-in-Refused : goal.returns-in-Refused
 unfolding table_text
-returns-in-Refused c = table_written _ _ c.in-Refused.is (rw refusal_not_zero (refusal_written c.refusal_number.ensures c.put_no_table.ensures))
+returns-in-Refused c = table_written _ _ c.in-Refused.is (rw refusal_not_zero (refusal_written c.from.ensures c.put_no_table.ensures))
 
 pub returns-in-Listed : goal.returns-in-Listed
 returns-in-Listed c = table_written _ _ c.in-Listed.is c.put_listed.ensures

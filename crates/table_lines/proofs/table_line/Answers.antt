@@ -24,19 +24,19 @@ slice_bounds-cells-end c = line_fits _ _ c.read_line-read.ensures
 pub slice_bounds-refresh_matrixs-end : goal.slice_bounds-refresh_matrixs-end
 slice_bounds-refresh_matrixs-end c = simp length-take (omega (arith, line_fits _ _ c.read_line-read.ensures))
 
-pub slice_bounds-cells-end-in-Accepted : goal.slice_bounds-cells-end-in-Accepted
-slice_bounds-cells-end-in-Accepted c = line_fits _ _ c.read_line-read.ensures
+pub slice_bounds-cells-end-in-Ok : goal.slice_bounds-cells-end-in-Ok
+slice_bounds-cells-end-in-Ok c = line_fits _ _ c.read_line-read.ensures
 
 pub slice_bounds-put_tables-end : goal.slice_bounds-put_tables-end
 slice_bounds-put_tables-end c = simp length-take (omega (arith, line_fits _ _ c.read_line-read.ensures))
 
-pub returns-in-Refused : goal.returns-in-Refused
-returns-in-Refused c =
-    let told = c.in-Refused.is in
+pub returns-in-Err : goal.returns-in-Err
+returns-in-Err c =
+    let told = c.in-Err.is in
     table_line_written _ _ c.read_line-read.ensures (not-false _ c.if-not-read.false) _ c.refresh_matrixs-answer.ensures
     (tables_after_lem _ _ _ told c.put_refused.ensures)
 
-pub returns-in-Accepted : goal.returns-in-Accepted
-returns-in-Accepted c =
+pub returns-in-Ok : goal.returns-in-Ok
+returns-in-Ok c =
     table_line_written _ _ c.read_line-read.ensures (not-false _ c.if-not-read.false) _ c.refresh_matrixs-answer.ensures
-    (tables_after_lem _ _ _ c.in-Accepted.is c.put_tables.ensures)
+    (tables_after_lem _ _ _ c.in-Ok.is c.put_tables.ensures)

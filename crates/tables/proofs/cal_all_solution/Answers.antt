@@ -3,7 +3,6 @@
 use mathlib.Core.Path.{◌≡◌, sym, ap, ◌∙◌}
 use mathlib.Core.List.{List}
 use borrow.Author.Rules.{rules}
-use Rattle.refusals.specs.declared.Tested.TheVariants.{Accepted}
 use Rattle.refusals.specs.Tests.{position_tested}
 use Rattle.refusals.proofs.Accepted.{AcceptedPosition, accepted_position}
 use Rattle.blocks.specs.Blocks.{Block}
@@ -12,15 +11,16 @@ use Rattle.frontier.proofs.CombinableBlocks.{read_combinable}
 use Rattle.tables.specs.Tables.{block_asked}
 use Rattle.tables.proofs.TableCalls.{tests_refuse, tests_accept, table_call}
 use Rattle.tables.proofs.cal_all_solution.Goals as goal
-use Rattle.tables.proofs.cal_all_solution.Goals.{In-Accepted}
+use Rattle.tables.proofs.cal_all_solution.Goals.{In-Ok}
+use Rattle.refusals.specs.Refusals.{Accepted}
 
 -- the tests accept
-tests : (c : In-Accepted)
+tests : (c : In-Ok)
     → (let a = c.args in position_tested a.rows a.columns a.position.now ≡ Accepted)
-tests c = sym c.test_position.ensures ∙ c.in-Accepted.is
+tests c = sym c.test_position.ensures ∙ c.in-Ok.is
 
 -- so this is known of the position
-facts : (c : In-Accepted)
+facts : (c : In-Ok)
     → (let a = c.args in AcceptedPosition a.rows a.columns a.position.now)
 facts c = accepted_position _ _ _ (tests c)
 
@@ -28,16 +28,16 @@ pub read_blocks-requires : goal.read_blocks-requires
 read_blocks-requires c = (facts c).board
 
 pub put_asked-requires : goal.put_asked-requires
-put_asked-requires c = let board = (facts (goal.at.put_asked-requires c).In-Accepted).board in record { whole = read_whole _ _ _ _ board _ c.read_blocks.ensures; combinable = read_combinable _ _ _ _ board _ c.read_blocks.ensures }
+put_asked-requires c = let board = (facts (goal.at.put_asked-requires c).In-Ok).board in record { whole = read_whole _ _ _ _ board _ c.read_blocks.ensures; combinable = read_combinable _ _ _ _ board _ c.read_blocks.ensures }
 
-pub returns-in-Refused : goal.returns-in-Refused
-returns-in-Refused c =
+pub returns-in-Err : goal.returns-in-Err
+returns-in-Err c =
     let a = c.args in
-    let is = tests_refuse a.edgeless a.rows a.columns a.position.now a.block a.table.now c.in-Refused.refusal (sym c.test_position.ensures ∙ c.in-Refused.is) in record { table_after = is; listed = table_call a.edgeless a.rows a.columns a.position.now a.block a.table.now _ _ is }
+    let is = tests_refuse a.edgeless a.rows a.columns a.position.now a.block a.table.now c.in-Err.refusal (sym c.test_position.ensures ∙ c.in-Err.is) in record { table_after = is; listed = table_call a.edgeless a.rows a.columns a.position.now a.block a.table.now _ _ is }
 
-pub returns-in-Accepted : goal.returns-in-Accepted
-returns-in-Accepted c =
+pub returns-in-Ok : goal.returns-in-Ok
+returns-in-Ok c =
     let a = c.args in
     let is = c.put_asked.ensures
-    ∙ ap (λ (bs : List Block). block_asked bs a.block a.table.now) (read_frontier _ _ _ _ (facts (goal.at.returns-in-Accepted c).In-Accepted).board _ c.read_blocks.ensures)
-    ∙ tests_accept a.edgeless a.rows a.columns a.position.now a.block a.table.now (tests (goal.at.returns-in-Accepted c).In-Accepted) in record { table_after = is; listed = table_call a.edgeless a.rows a.columns a.position.now a.block a.table.now _ _ is }
+    ∙ ap (λ (bs : List Block). block_asked bs a.block a.table.now) (read_frontier _ _ _ _ (facts (goal.at.returns-in-Ok c).In-Ok).board _ c.read_blocks.ensures)
+    ∙ tests_accept a.edgeless a.rows a.columns a.position.now a.block a.table.now (tests (goal.at.returns-in-Ok c).In-Ok) in record { table_after = is; listed = table_call a.edgeless a.rows a.columns a.position.now a.block a.table.now _ _ is }
