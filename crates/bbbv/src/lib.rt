@@ -11,6 +11,7 @@ ghost use Rattle.bbbv.specs.Flooded.{flooded, closed_safe};
 ghost use Rattle.bbbv.specs.Answer.{cal_bbbv};
 
 use flood::refresh_board;
+use grid::window::Size;
 use refusals::{Refusal, test_bbbv};
 
 // What the 3BV call answers.
@@ -97,7 +98,14 @@ pub fn cal_bbbv(edgeless: bool, rows: usize, columns: usize, cells: &[u8]) -> Bb
     ensures value { result ≡ cal_bbbv edgeless rows columns cells.now }
     ensures by_index { (n : ℕ) → result ≡ BbbvAnswer.Counted n → IsBbbv (neighbours edgeless rows columns) cells.now n }
 {
-    let tested = test_bbbv(edgeless, rows, columns, cells);
+    let tested = test_bbbv(
+        Size {
+            edgeless,
+            rows,
+            columns,
+        },
+        cells,
+    );
     match tested {
         Err(refusal) => BbbvAnswer::Refused(refusal),
         Ok(()) => BbbvAnswer::Counted(count_bbbv(edgeless, rows, columns, cells)),

@@ -27,6 +27,7 @@ use direct::answer::RuleAnswer;
 use direct::direct::direct_rule;
 use enumeration::enumerate::enumerate_rule;
 use frontier::read_blocks;
+use grid::window::Size;
 use refusals::test_deduction;
 use subtraction::minus_rule;
 
@@ -70,7 +71,16 @@ pub fn deduce(
         (tested_number result.tested) result.safe result.mines safe.new mines.new }
     ensures six { RefusesBy rule edgeless rows columns position.old safe.old mines.old (tested_number result.tested) }
 {
-    match test_deduction(rows, columns, position, safe.len(), mines.len()) {
+    match test_deduction(
+        Size {
+            edgeless,
+            rows,
+            columns,
+        },
+        position,
+        safe.len(),
+        mines.len(),
+    ) {
         Ok(()) => {
             let found = run_rule(rule, read_blocks(edgeless, rows, columns, position));
             give_answer(found, position, safe, mines)

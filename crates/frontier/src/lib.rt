@@ -13,6 +13,7 @@ ghost use Rattle.frontier.specs.Answer.{refresh_matrixs};
 
 use blocks::{BlockSet, empty_set};
 use filling::{fill_cells, fill_equations};
+use grid::window::Size;
 use growth::{drop_first, grow_block};
 use refusals::{Refusal, test_position};
 use sources::read_sources;
@@ -35,7 +36,14 @@ pub fn refresh_matrixs(
 ) -> FrontierAnswer
     ensures { result ≡ refresh_matrixs edgeless rows columns position.now }
 {
-    let tested = test_position(rows, columns, position);
+    let tested = test_position(
+        Size {
+            edgeless,
+            rows,
+            columns,
+        },
+        position,
+    );
     match tested {
         Ok(()) => FrontierAnswer {
             tested,

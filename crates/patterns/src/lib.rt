@@ -10,7 +10,7 @@ ghost use Rattle.patterns.specs.Shapes.{mine_mark};
 ghost use Rattle.patterns.specs.Answer.{unsolvable_structure};
 ghost use Rattle.patterns.specs.Walk.{Laid};
 
-use grid::window::cell_number;
+use grid::window::{Size, cell_number};
 use refusals::{Refusal, test_pattern};
 use table::pattern_found;
 
@@ -26,7 +26,7 @@ pub enum PatternAnswer {
 pub fn unsolvable_structure(rows: usize, columns: usize, cells: &[u8]) -> PatternAnswer
     ensures { result ≡ unsolvable_structure rows columns cells.now }
 {
-    let tested = test_pattern(rows, columns, cells);
+    let tested = test_pattern(Size::flat(rows, columns), cells);
     match tested {
         Err(refusal) => PatternAnswer::Refused(refusal),
         Ok(()) => {

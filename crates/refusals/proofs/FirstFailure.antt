@@ -2,29 +2,21 @@
 -- that of a test which fails with every test before it passing, and where the list is in the order of the numbers it has the lowest number of those
 -- that apply. By recursion on the list. Assumes nothing.
 use Rattle.std.specs.Prelude.{Ok, Err}
-use mathlib.Core.Path.{◌≡◌, refl, sym, ◌∙◌, ap}
+use mathlib.Core.Path.{◌≡◌, refl, ◌∙◌, ap}
 use mathlib.Core.Logic.{inl, inr, ◌≢◌}
-use mathlib.Core.Bool.{Bool, true, false, not, cond, ◌&&◌, ◌||◌}
+use mathlib.Core.Bool.{Bool, true, false, cond, ◌&&◌, ◌||◌}
 use mathlib.Core.List.{List, [], ◌∷◌, ◌++◌}
 use Prim.Native.Nat.{ℕ, ◌<◌}
 use native.Mathlib.Omega.{arith}
 use lib.Dec.{eqb, leb}
 use lib.ListN.{length, get_or}
-use borrow.Author.Tests.{not-true, not-false, le-leb, ne_eqb}
+use borrow.Author.Tests.{le-leb, ne_eqb}
 use Rattle.lists.specs.Lists.{all, has}
 use Rattle.lists.proofs.All.{all_at}
 use Rattle.lists.proofs.Tests.{Decided, decided, clash, and_left, and_right, or_right}
 use Rattle.refusals.specs.declared.Refusal.{Refusal}
 use Rattle.refusals.specs.declared.Refusal.TheVariants.{Size, Length, Cell, Start, Number, Contradiction, Block, Table, Mark, Short, StartMine}
 use Rattle.refusals.specs.Refusals.{Accepted, Tested, refusal_number, Test, test, tested}
-
--- ---- what the code's `if !test(..)` tells of the test that the call answers with
-
-pub passed : {answer test : Bool} → answer ≡ test → not answer ≡ false → test ≡ true
-passed e h = sym e ∙ not-false _ h
-
-pub failed : {answer test : Bool} → answer ≡ test → not answer ≡ true → test ≡ false
-failed e h = sym e ∙ not-true _ h
 
 -- ---- acceptance
 

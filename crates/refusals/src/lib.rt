@@ -2,14 +2,15 @@
 // what a later test asks for, the earlier ones have shown. No test forms rows × columns before the size is known to be small.
 #![tactic(auto)]
 
-ghost use Rattle.std.specs.Prelude.{◌≡◌, true, ◌&&◌, leb};
+ghost use Rattle.std.specs.Prelude.{◌≡◌, true, ◌&&◌, ◌||◌, ◌<◌, leb, eqb, length};
+ghost use Rattle.grid.specs.Cells.{cell_of};
 ghost use Rattle.lists.specs.Lists.{all};
-ghost use Rattle.grid.specs.Window.{neighbours, Sized, Board};
+ghost use Rattle.grid.specs.Window.{neighbours_on, Sized, Board};
 ghost use Rattle.refusals.specs.Refusals.{refusal_number, tested};
-ghost use Rattle.refusals.specs.Tests.{size_ok, length_ok, room_ok, start_ok, numbers_ok, start_cell, board_tested, position_tested, deduction_tested, pattern_tested, bbbv_tested};
+ghost use Rattle.refusals.specs.Tests.{size_ok, length_ok, room_ok, start_ok, mines_beside, numbers_ok, start_cell, board_tested, position_tested, deduction_tested, pattern_tested, bbbv_tested};
 ghost use Rattle.refusals.specs.SharedTests.{cell_in, cell_tests};
 
-use grid::window::{count_beside, wide_byte};
+use grid::window::Size;
 
 // What a call may refuse, in the order of their numbers, of which 7 is not given again.
 #[derive(Clone, Copy, PartialEq, Eq)]
@@ -44,43 +45,43 @@ fn side_ok(least: usize, side: usize) -> bool
 
 // Test 1: both sides are from `least` to 32.
 #[tactic(auto, unfolding(crate::specs::Tests::size_ok))]
-pub fn size_ok(least: usize, rows: usize, columns: usize) -> bool
-    ensures { result ≡ size_ok least rows columns }
+pub fn size_ok(least: usize, size: Size) -> bool
+    ensures { result ≡ size_ok least size.rows size.columns }
 {
-    side_ok(least, rows) && side_ok(least, columns)
+    side_ok(least, size.rows) && side_ok(least, size.columns)
 }
 
 // Test 2: a slice of `length` bytes has one for each cell.
-pub fn length_ok(rows: usize, columns: usize, length: usize) -> bool
-    requires { Sized rows columns }
-    ensures { result ≡ length_ok rows columns length }
+pub fn length_ok(size: Size, length: usize) -> bool
+    requires { Sized size.rows size.columns }
+    ensures { result ≡ length_ok size.rows size.columns length }
 {
-    length == rows * columns
+    length == size.rows * size.columns
 }
 
 // Test 2: a list of `length` entries has room for each cell.
-pub fn room_ok(rows: usize, columns: usize, length: usize) -> bool
-    requires { Sized rows columns }
-    ensures { result ≡ room_ok rows columns length }
+pub fn room_ok(size: Size, length: usize) -> bool
+    requires { Sized size.rows size.columns }
+    ensures { result ≡ room_ok size.rows size.columns length }
 {
-    rows * columns <= length
+    size.rows * size.columns <= length
 }
 
 // Test 2: both of the lent lists, of these lengths, have room for each cell.
-fn lists_ok(rows: usize, columns: usize, safe: usize, mines: usize) -> bool
-    requires { Sized rows columns }
-    ensures { result ≡ (room_ok rows columns safe && room_ok rows columns mines) }
+fn lists_ok(size: Size, safe: usize, mines: usize) -> bool
+    requires { Sized size.rows size.columns }
+    ensures { result ≡ (room_ok size.rows size.columns safe && room_ok size.rows size.columns mines) }
 {
-    room_ok(rows, columns, safe) && room_ok(rows, columns, mines)
+    room_ok(size, safe) && room_ok(size, mines)
 }
 
 // Test 2: each of the lent slices, of these lengths, has one byte for each cell.
-fn lengths_ok(rows: usize, columns: usize, lent: &[usize]) -> bool
-    requires { Sized rows columns }
-    ensures { result ≡ all (length_ok rows columns) lent.now }
+fn lengths_ok(size: Size, lent: &[usize]) -> bool
+    requires { Sized size.rows size.columns }
+    ensures { result ≡ all (length_ok size.rows size.columns) lent.now }
 {
     for &length in lent {
-        if !length_ok(rows, columns, length) {
+        if !length_ok(size, length) {
             return false;
         }
     }
@@ -103,62 +104,56 @@ fn cells_ok(low: u8, high: u8, cells: &[u8]) -> bool
 
 // Test 4: the start is on the board.
 #[tactic(auto, unfolding(crate::specs::Tests::start_ok))]
-pub fn start_ok(rows: usize, columns: usize, row: usize, column: usize) -> bool
-    ensures { result ≡ start_ok rows columns row column }
+pub fn start_ok(size: Size, row: usize, column: usize) -> bool
+    ensures { result ≡ start_ok size.rows size.columns row column }
 {
-    row < rows && column < columns
+    row < size.rows && column < size.columns
+}
+
+// Is a cell a mine, or its number its count of neighbouring mines?
+fn number_ok(size: Size, cells: &[u8], cell: usize) -> bool
+    requires board { Board cells.now size.rows size.columns }
+    requires on { cell < length cells.now }
+    ensures { result ≡ (eqb (cell_of cells.now cell) 255 || eqb (mines_beside (neighbours_on size) cells.now cell) (cell_of cells.now cell)) }
+{
+    let shown = cells[cell];
+    if shown == 255 {
+        return true;
+    }
+    let mines = size.count_beside(cells, cell / size.columns, cell % size.columns, 255);
+    mines == usize::from(shown)
 }
 
 // Test 5: each safe cell's number is its count of neighbouring mines.
-pub fn numbers_ok(edgeless: bool, rows: usize, columns: usize, cells: &[u8]) -> bool
-    requires { Board cells.now rows columns }
-    ensures { result ≡ numbers_ok (neighbours edgeless rows columns) cells.now }
+pub fn numbers_ok(size: Size, cells: &[u8]) -> bool
+    requires { Board cells.now size.rows size.columns }
+    ensures { result ≡ numbers_ok (neighbours_on size) cells.now }
 {
-    let n = rows * columns;
-    for c in 0..n {
-        let v = cells[c];
-        if v != 255 {
-            let mines = count_beside(
-                edgeless,
-                rows,
-                columns,
-                cells,
-                c / columns,
-                c % columns,
-                255,
-            );
-            if mines != wide_byte(v) {
-                return false;
-            }
+    for cell in 0..cells.len() {
+        if !number_ok(size, cells, cell) {
+            return false;
         }
     }
     true
 }
 
 // The cell of a start on the board.
-pub fn start_cell(rows: usize, columns: usize, row: usize, column: usize) -> usize
-    requires sized { Sized rows columns }
-    requires column_value { start_ok rows columns row column ≡ true }
-    ensures { result ≡ start_cell columns row column }
+pub fn start_cell(size: Size, row: usize, column: usize) -> usize
+    requires sized { Sized size.rows size.columns }
+    requires column_value { start_ok size.rows size.columns row column ≡ true }
+    ensures { result ≡ start_cell size.columns row column }
 {
-    row * columns + column
+    row * size.columns + column
 }
 
 // Tests 1, 2 and 3 of a call on cells that are 0 to 8, or `low` to `high`.
-fn test_cells(
-    least: usize,
-    rows: usize,
-    columns: usize,
-    low: u8,
-    high: u8,
-    cells: &[u8],
-) -> Result<(), Refusal>
-    ensures { result ≡ tested (cell_tests least rows columns cells.now (all (cell_in low high) cells.now)) }
+fn test_cells(least: usize, size: Size, low: u8, high: u8, cells: &[u8]) -> Result<(), Refusal>
+    ensures { result ≡ tested (cell_tests least size.rows size.columns cells.now (all (cell_in low high) cells.now)) }
 {
-    if !size_ok(least, rows, columns) {
+    if !size_ok(least, size) {
         return Err(Refusal::Size);
     }
-    if !length_ok(rows, columns, cells.len()) {
+    if !length_ok(size, cells.len()) {
         return Err(Refusal::Length);
     }
     if !cells_ok(low, high, cells) {
@@ -169,68 +164,60 @@ fn test_cells(
 
 // The tests of a board call, which lends slices of the lengths `lent` too. These are measured before the board: test 2 is one refusal for all.
 pub fn test_board(
-    edgeless: bool,
-    rows: usize,
-    columns: usize,
+    size: Size,
     row: usize,
     column: usize,
     cells: &[u8],
     lent: &[usize],
 ) -> Result<(), Refusal>
-    ensures { result ≡ board_tested edgeless rows columns row column cells.now lent.now }
+    ensures { result ≡ board_tested size.edgeless size.rows size.columns row column cells.now lent.now }
 {
-    if size_ok(1, rows, columns) && !lengths_ok(rows, columns, lent) {
+    if size_ok(1, size) && !lengths_ok(size, lent) {
         return Err(Refusal::Length);
     }
-    test_cells(1, rows, columns, 255, 255, cells)?;
-    if !start_ok(rows, columns, row, column) {
+    test_cells(1, size, 255, 255, cells)?;
+    if !start_ok(size, row, column) {
         return Err(Refusal::Start);
     }
-    if !numbers_ok(edgeless, rows, columns, cells) {
+    if !numbers_ok(size, cells) {
         return Err(Refusal::Number);
     }
-    if cells[start_cell(rows, columns, row, column)] == 255 {
+    if cells[start_cell(size, row, column)] == 255 {
         return Err(Refusal::StartMine);
     }
     Ok(())
 }
 
 // The tests of a call on a position.
-pub fn test_position(rows: usize, columns: usize, position: &[u8]) -> Result<(), Refusal>
-    ensures { result ≡ position_tested rows columns position.now }
+pub fn test_position(size: Size, position: &[u8]) -> Result<(), Refusal>
+    ensures { result ≡ position_tested size.rows size.columns position.now }
 {
-    test_cells(1, rows, columns, 10, 12, position)
+    test_cells(1, size, 10, 12, position)
 }
 
 // The tests of a deduction, which lends lists of `safe` and `mines` entries. These are measured before the position: test 2 is one refusal for all.
-pub fn test_deduction(
-    rows: usize,
-    columns: usize,
-    position: &[u8],
-    safe: usize,
-    mines: usize,
-) -> Result<(), Refusal>
-    ensures { result ≡ deduction_tested rows columns position.now safe mines }
+pub fn test_deduction(size: Size, position: &[u8], safe: usize, mines: usize) -> Result<(), Refusal>
+    ensures { result ≡ deduction_tested size.rows size.columns position.now safe mines }
 {
-    if size_ok(1, rows, columns) && !lists_ok(rows, columns, safe, mines) {
+    if size_ok(1, size) && !lists_ok(size, safe, mines) {
         return Err(Refusal::Length);
     }
-    test_position(rows, columns, position)
+    test_position(size, position)
 }
 
 // The tests of the pattern call, which looks at mines only.
-pub fn test_pattern(rows: usize, columns: usize, cells: &[u8]) -> Result<(), Refusal>
-    ensures { result ≡ pattern_tested rows columns cells.now }
+pub fn test_pattern(size: Size, cells: &[u8]) -> Result<(), Refusal>
+    ensures { result ≡ pattern_tested size.rows size.columns cells.now }
 {
-    test_cells(3, rows, columns, 255, 255, cells)
+    test_cells(3, size, 255, 255, cells)
 }
 
 // The tests of the 3BV call, which has no start.
-pub fn test_bbbv(edgeless: bool, rows: usize, columns: usize, board: &[u8]) -> Result<(), Refusal>
-    ensures { result ≡ bbbv_tested edgeless rows columns board.now }
+pub fn test_bbbv(size: Size, board: &[u8]) -> Result<(), Refusal>
+    ensures { result ≡ bbbv_tested size.edgeless size.rows size.columns board.now }
 {
-    test_cells(1, rows, columns, 255, 255, board)?;
-    if numbers_ok(edgeless, rows, columns, board) {
+    test_cells(1, size, 255, 255, board)?;
+    if numbers_ok(size, board) {
         Ok(())
     } else {
         Err(Refusal::Number)

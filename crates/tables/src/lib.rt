@@ -15,6 +15,7 @@ ghost use Rattle.tables.specs.Listed.{TableCall};
 
 use blocks::{BlockSet, Bounds, bounds_at};
 use frontier::read_blocks;
+use grid::window::Size;
 use groups::{Grouped, combine};
 use orders::weigh;
 use refusals::{Refusal, test_position};
@@ -134,7 +135,14 @@ pub fn cal_all_solution(
     ensures listed { TableCall edgeless rows columns position.now block table.old
         (table_number result) (table_solutions result) (table_groups result) table.new }
 {
-    match test_position(rows, columns, position) {
+    match test_position(
+        Size {
+            edgeless,
+            rows,
+            columns,
+        },
+        position,
+    ) {
         Err(refusal) => TableAnswer::Refused(refusal),
         Ok(()) => put_asked(read_blocks(edgeless, rows, columns, position), block, table),
     }

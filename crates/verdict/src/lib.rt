@@ -17,7 +17,7 @@ ghost use Rattle.rounds.specs.Rounds.{rounds_of};
 ghost use Rattle.verdict.specs.Rules.{rules_of};
 ghost use Rattle.verdict.specs.Verdict.{board_grade, verdict_seen, judged_by, verdict_after_tests, is_solvable, MeetsDemand3, is_solvable_total, MeetsDemand3Total};
 
-use grid::window::FLAT;
+use grid::window::{FLAT, Size};
 use passes::run_passes;
 use refusals::{Refusal, start_cell, test_board};
 use rounds::no_rounds;
@@ -142,18 +142,15 @@ fn test_and_judge(
         picture.old opened_in.old }
 {
     let lent = [picture.len(), opened_in.len()];
-    match test_board(
+    let size = Size {
         edgeless,
         rows,
         columns,
-        start_row,
-        start_column,
-        cells,
-        &lent,
-    ) {
+    };
+    match test_board(size, start_row, start_column, cells, &lent) {
         Err(refusal) => Verdict::Refused(refusal),
         Ok(()) => {
-            let start = start_cell(rows, columns, start_row, start_column);
+            let start = start_cell(size, start_row, start_column);
             judge(
                 shows_total,
                 edgeless,

@@ -3,4 +3,4 @@ use Rattle.refusals.specs.Tests.{length_ok}
 use Rattle.refusals.proofs.lengths_ok.Given as goal
 
 abbrev pub invariant-loop-length : goal.invariant-loop-length
-invariant-loop-length l = AllLeft (length_ok l.rows l.columns) l.lent l.length-index
+invariant-loop-length l = AllLeft (length_ok l.size.rows l.size.columns) l.lent l.length-index

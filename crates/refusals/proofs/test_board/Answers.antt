@@ -23,7 +23,7 @@ unfolding board_tested
 returns-then-not-lengths_ok c = rw (← c.if-size_ok.ensures, ← c.if-not-lengths_ok.ensures, and-false)
 
 -- where the size is right the lent lengths are
-measured : (c : After-test_cells) → (let a = c.args in size_ok 1 a.rows a.columns ≡ true → all (length_ok a.rows a.columns) a.lent.now ≡ true)
+measured : (c : After-test_cells) → (let a = c.args in size_ok 1 a.size.rows a.size.columns ≡ true → all (length_ok a.size.rows a.size.columns) a.lent.now ≡ true)
 measured c size =
     elim c.else-size_ok.branch [
       | else-size_ok-via-then-size_ok+else-not-lengths_ok w ↦ sym w.if-not-lengths_ok.ensures
@@ -34,15 +34,15 @@ pub returns-in_err-test_cells : goal.returns-in_err-test_cells
 returns-in_err-test_cells c =
     let a = c.args in
     let p = err_from_is_err_and c.from_residual.result c.from_residual.ensures.1 in
-    rw (p.1, p.2, board_later a.edgeless _ _ a.row a.column a.cells.now a.lent.now (measured (goal.at.returns-in_err-test_cells c).After-test_cells) c.in_err-test_cells.ensures)
+    rw (p.1, p.2, board_later a.size.edgeless _ _ a.row a.column a.cells.now a.lent.now (measured (goal.at.returns-in_err-test_cells c).After-test_cells) c.in_err-test_cells.ensures)
 
 pub returns-then-not-start_ok : goal.returns-then-not-start_ok
 returns-then-not-start_ok c =
     let a = c.args in
-    rw (board_later a.edgeless _ _ a.row a.column a.cells.now a.lent.now (measured (goal.at.returns-then-not-start_ok c).After-test_cells) c.in_ok-test_cells.ensures, ← c.if-not-start_ok.ensures)
+    rw (board_later a.size.edgeless _ _ a.row a.column a.cells.now a.lent.now (measured (goal.at.returns-then-not-start_ok c).After-test_cells) c.in_ok-test_cells.ensures, ← c.if-not-start_ok.ensures)
 
 -- tests 1 to 3 have passed, so that the cells are a board
-cells_board : (c : Else-not-start_ok) → (let a = c.args in Board a.cells.now a.rows a.columns)
+cells_board : (c : Else-not-start_ok) → (let a = c.args in Board a.cells.now a.size.rows a.size.columns)
 cells_board c = accepted_cells 1 _ _ _ (all (cell_in 255 255) c.args.cells.now) (sym c.in_ok-test_cells.ensures)
 
 pub numbers_ok-requires : goal.numbers_ok-requires
@@ -52,7 +52,7 @@ pub returns-then-not-numbers_ok : goal.returns-then-not-numbers_ok
 returns-then-not-numbers_ok c =
     let a = c.args in
     rw (
-      board_later a.edgeless _ _ a.row a.column a.cells.now a.lent.now (measured (goal.at.returns-then-not-numbers_ok c).After-test_cells) c.in_ok-test_cells.ensures,
+      board_later a.size.edgeless _ _ a.row a.column a.cells.now a.lent.now (measured (goal.at.returns-then-not-numbers_ok c).After-test_cells) c.in_ok-test_cells.ensures,
       ← c.if-not-start_ok.ensures,
       ← c.if-not-numbers_ok.ensures,
     )
@@ -68,18 +68,18 @@ pub returns-then-cells-start_cell : goal.returns-then-cells-start_cell
 returns-then-cells-start_cell c =
     let a = c.args in
     rw (
-      board_later a.edgeless _ _ a.row a.column a.cells.now a.lent.now (measured (goal.at.returns-then-cells-start_cell c).After-test_cells) c.in_ok-test_cells.ensures,
+      board_later a.size.edgeless _ _ a.row a.column a.cells.now a.lent.now (measured (goal.at.returns-then-cells-start_cell c).After-test_cells) c.in_ok-test_cells.ensures,
       ← c.if-not-start_ok.ensures,
       ← c.if-not-numbers_ok.ensures,
-      mine_start_fails a.columns a.row a.column a.cells.now (rw (← c.start_cell.ensures) c.if-cells-start_cell.true),
+      mine_start_fails a.size.columns a.row a.column a.cells.now (rw (← c.start_cell.ensures) c.if-cells-start_cell.true),
     )
 
 pub returns : goal.returns
 returns c =
     let a = c.args in
     rw (
-      board_later a.edgeless _ _ a.row a.column a.cells.now a.lent.now (measured (goal.at.returns c).After-test_cells) c.in_ok-test_cells.ensures,
+      board_later a.size.edgeless _ _ a.row a.column a.cells.now a.lent.now (measured (goal.at.returns c).After-test_cells) c.in_ok-test_cells.ensures,
       ← c.if-not-start_ok.ensures,
       ← c.if-not-numbers_ok.ensures,
-      safe_start_passes a.columns a.row a.column a.cells.now (rw (← c.start_cell.ensures) c.if-cells-start_cell.false),
+      safe_start_passes a.size.columns a.row a.column a.cells.now (rw (← c.start_cell.ensures) c.if-cells-start_cell.false),
     )

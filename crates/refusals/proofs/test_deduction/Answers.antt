@@ -20,7 +20,7 @@ returns c =
     let a = c.args in
     rw (
       c.test_position.ensures,
-      deduction_later a.rows a.columns a.position.now a.safe a.mines (λ size. elim c.else-size_ok.branch [
+      deduction_later a.size.rows a.size.columns a.position.now a.safe a.mines (λ size. elim c.else-size_ok.branch [
         | else-size_ok-via-then-size_ok+else-not-lists_ok w ↦ sym w.if-not-lists_ok.ensures
         | else-size_ok-via-else-size_ok w ↦ cc
       ]),
