@@ -6,36 +6,25 @@ use mathlib.Core.List.Memᴰ
 use mathlib.Core.List.{List, [], ◌∷◌, ◌++◌, map, map-append, map-map, append-nil}
 use Prim.Native.Nat.{ℕ, suc, ◌+◌, ◌-◌, ◌*◌, ◌≤◌, ◌<◌}
 use native.Mathlib.Nat.{add-mul, suc-mul, zero-mul, mul-le-mul_left, mul-le-mul_right}
-use native.Mathlib.Numerals.{add-one}
 use native.Mathlib.Omega.{arith}
 use lib.Dec.{eqb}
-use lib.ListN.{length, get_or, take, drop, set, length-append, length-map}
+use lib.ListN.{length, get_or, take, set, length-append, length-map}
 use lib.Seq.{sets, length-take-le}
 use Rattle.lists.specs.Lists.{all, joined}
-use Rattle.lists.proofs.Counted.{counted_more, counted_none}
 use Rattle.lists.proofs.Joined.{joined_append}
 use Rattle.lists.proofs.Stores.{sets_append}
 use Rattle.grid.specs.declared.window.UpToEight.{UpToEight}
-use Rattle.lists.proofs.PassingElements.{Each}
-use Rattle.search.specs.Trees.{lowered}
-use Rattle.search.specs.Searching.{unset, tree_at, tree_from, placed, Kept}
+use Rattle.lists.proofs.PassingElements.{Each, each_mapped}
+use Rattle.blocks.specs.BlockSets.{slot_cells}
+use Rattle.search.specs.Trees.{lowered, possible}
+use Rattle.search.specs.declared.Unmet.{Unmet}
+use Rattle.search.specs.Searching.{raised, unset, tree_at, tree_from, placed, Kept}
 use Rattle.search.proofs.OrderedGroups.{Group, unset_none, unset_more}
-use Rattle.search.proofs.Branches.{tree_leaf, tree_values, from_none, from_wide}
-use Rattle.search.proofs.TakenValues.{places, Taken, tree_more}
+use Rattle.search.proofs.Branches.{tree_leaf, tree_values, tree_at_wide}
+use Rattle.search.proofs.FirstValues.{values_none, values_rest, values_impossible, values_possible}
+use Rattle.search.proofs.TakenValues.{places, Taken, taken_column, back}
 use Rattle.search.proofs.KeptValues.{kept_same, kept_both, kept_set, placed_kept}
 use Rattle.search.proofs.Orders.{length_placed}
-
--- ---- one row
-
-module _ (table values : List ℕ) (groups g : ℕ) where
-  -- the next of its numbers
-  pub row_next : g < groups → groups ≤ length values → sets (set table g (get_or values g 0)) (g + 1) (drop (g + 1) (take groups values)) ≡ sets table g (drop g (take groups values))
-  row_next h few =
-      ap (λ (i : ℕ). sets (set table g (get_or values g 0)) i (drop (g + 1) (take groups values))) (add-one g)
-      ∙ sym (ap (sets table g) (counted_more values groups g 0 h few))
-
-  pub row_end : groups ≤ g → table ≡ sets table g (drop g (take groups values))
-  row_end h = sym (ap (sets table g) (counted_none values groups g h))
 
 -- ---- any rows
 
@@ -127,55 +116,78 @@ module _ (order : List ℕ) (groups : ℕ) (sizes columns : List ℕ) (at : ℕ)
   pub written_unmet : all (λ n. eqb n 0) needs ≡ false → Written groups (tree_at order groups sizes columns at needs rooms) (unset order groups at) values values table table row row
   written_unmet e = rw (tree_leaf order groups sizes columns at needs rooms end false e) (written_nothing groups (unset order groups at) values table row)
 
--- ---- the values of a group
+-- ---- the loop over the values of a group
 
-module _ {order : List ℕ} {groups equations : ℕ} {sizes columns : List ℕ} {at g : ℕ} (here : Group order groups equations sizes columns at g) (needs rooms : List ℕ) where
-  pub written_values : {values after table out : List ℕ} {row next : ℕ} (to : ℕ) → to ≡ get_or sizes g 0
-      → Written groups (tree_from order groups sizes columns at 0 (suc to - 0) needs rooms) (unset order groups at) values after table out row next
-      → Written groups (tree_at order groups sizes columns at needs rooms) (unset order groups at) values after table out row next
-  written_values to e s = rw (tree_values here needs rooms to e) s
+-- the first v values are tried, and what is unmet is as it was before them
+pub record TriedRows (order : List ℕ) (groups : ℕ) (sizes columns : List ℕ) (at v : ℕ) (before unmet : Unmet) (values after table out : List ℕ) (row next : ℕ) : Type 0 where
+  pub same : unmet ≡ before
+  pub rows : Written groups (tree_from order groups sizes columns at 0 (v - 0) before.needs before.rooms) (unset order groups at) values after table out row next
 
-  module _ (v to : ℕ) where
-    pub written_past : (values table : List ℕ) (row : ℕ) → to < v
-        → Written groups (tree_from order groups sizes columns at v (suc to - v) needs rooms) (unset order groups at) values values table table row row
-    written_past values table row u = rw (from_none here needs rooms v to u) (written_nothing groups (unset order groups at) values table row)
+module _ {order : List ℕ} {groups equations : ℕ} {sizes columns : List ℕ} {at g : ℕ} (here : Group order groups equations sizes columns at g) where
+  -- none yet
+  pub tried_none : (unmet : Unmet) (values table : List ℕ) (row : ℕ) → TriedRows order groups sizes columns at 0 unmet unmet values values table table row row
+  tried_none unmet values table row =
+      record { same = refl; rows = rw (values_none here unmet.needs unmet.rooms 0) (written_nothing groups (unset order groups at) values table row) }
 
--- ---- a value that is possible
+  module _ {v : ℕ} {before unmet : Unmet} {values after table out : List ℕ} {row next : ℕ} (s : TriedRows order groups sizes columns at v before unmet values after table out row next) where
+    -- one that is not possible
+    pub tried_impossible : (es : List ℕ) → es ≡ slot_cells columns g → possible (get_or sizes g 0) es unmet.needs unmet.rooms v ≡ false
+        → TriedRows order groups sizes columns at (v + 1) before unmet values after table out row next
+    tried_impossible es column e =
+        record { same = s.same; rows = rw (values_impossible here before.needs before.rooms 0 v (omega arith) es column (rw s.same at e)) s.rows }
 
-module _ {order : List ℕ} {groups equations : ℕ} {sizes columns : List ℕ} {at g : ℕ} {needs rooms : List ℕ} {v to : ℕ} {list : UpToEight}
-    (k : Taken order groups equations sizes columns at g needs rooms v to list)
-    {needs_below rooms_below : List ℕ} (low_needs : needs_below ≡ lowered v (places list) needs) (low_rooms : rooms_below ≡ lowered (get_or sizes g 0) (places list) rooms) where
-  -- how many rows there are
-  pub rows_more : length (tree_from order groups sizes columns at v (suc to - v) needs rooms)
-      ≡ length (tree_at order groups sizes columns (at + 1) needs_below rooms_below) + length (tree_from order groups sizes columns at (v + 1) (suc to - (v + 1)) needs rooms)
-  rows_more =
-      ap length (tree_more k low_needs low_rooms)
-      ∙ length-append (map (λ (row : List ℕ). v ∷ row) (tree_at order groups sizes columns (at + 1) needs_below rooms_below)) (tree_from order groups sizes columns at (v + 1) (suc to - (v + 1)) needs rooms)
-      ∙ ap (λ (n : ℕ). n + length (tree_from order groups sizes columns at (v + 1) (suc to - (v + 1)) needs rooms)) (length-map (tree_at order groups sizes columns (at + 1) needs_below rooms_below) (λ (row : List ℕ). v ∷ row))
+    -- all
+    pub tried_all : v ≡ suc (get_or sizes g 0) → Written groups (tree_at order groups sizes columns at before.needs before.rooms) (unset order groups at) values after table out row next
+    tried_all e = let all_values : suc (get_or sizes g 0) ≡ v = omega (arith, e) in rw (tree_values here before.needs before.rooms (get_or sizes g 0) refl, all_values) s.rows
 
-  -- its rows, and then those of the next values
-  pub written_on : (values : List ℕ) → length values ≡ 1024 → {middle after table between out : List ℕ} {row next last : ℕ} {needs_back rooms_back : List ℕ} → needs_back ≡ needs → rooms_back ≡ rooms
-      → Written groups (tree_at order groups sizes columns (at + 1) needs_below rooms_below) (unset order groups (at + 1)) (set values g v) middle table between row next
-      → Written groups (tree_from order groups sizes columns at (v + 1) (suc to - (v + 1)) needs_back rooms_back) (unset order groups at) middle after between out next last
-      → Written groups (tree_from order groups sizes columns at v (suc to - v) needs rooms) (unset order groups at) values after table out row last
-  written_on values long n m s w =
-      written_same (tree_more k low_needs low_rooms)
-      (written_more {ys = tree_from order groups sizes columns at (v + 1) (suc to - (v + 1)) needs rooms} (omega (arith, k.here.ordered.few)) (from_wide k.here needs rooms (v + 1) (suc to - (v + 1)))
-      (written_among (unset_more k.here) (written_value values g v s)) (rw (n, m) at w))
+-- the same of equal values
+pub tried_same : {order : List ℕ} {groups : ℕ} {sizes columns : List ℕ} {at v : ℕ} {before unmet unmet' : Unmet} {values after after' table out out' : List ℕ} {row next next' : ℕ}
+    → unmet' ≡ unmet → after' ≡ after → out' ≡ out → next' ≡ next
+    → TriedRows order groups sizes columns at v before unmet values after table out row next → TriedRows order groups sizes columns at v before unmet' values after' table out' row next'
+tried_same u a o n s = rw (u, a, o, n) s
 
-  -- room for its rows, and for those of the next values
-  module _ (row : ℕ) (table : List ℕ) (fits : (row + length (tree_from order groups sizes columns at v (suc to - v) needs rooms)) * groups ≤ length table) where
-    pub room_first : (row + length (tree_at order groups sizes columns (at + 1) needs_below rooms_below)) * groups ≤ length table
-    room_first =
-        let less : (row + length (tree_at order groups sizes columns (at + 1) needs_below rooms_below)) * groups ≤ (row + length (tree_from order groups sizes columns at v (suc to - v) needs rooms)) * groups =
-        mul-le-mul_right groups (omega (arith, rows_more)) in
-        omega arith
+-- one that is possible: its rows are written after those before it
+module _ {order : List ℕ} {groups equations : ℕ} {sizes columns : List ℕ} {at g v : ℕ} {list : UpToEight} {before unmet down : Unmet} {values tried table out : List ℕ} {row next : ℕ}
+    (k : Taken order groups equations sizes columns at g unmet.needs unmet.rooms v (get_or sizes g 0) list) (s : TriedRows order groups sizes columns at v before unmet values tried table out row next)
+    (n : down.needs ≡ lowered v (places list) unmet.needs) (m : down.rooms ≡ lowered (get_or sizes g 0) (places list) unmet.rooms) where
+  below : tree_at order groups sizes columns (at + 1) (lowered v (places list) before.needs) (lowered (get_or sizes g 0) (places list) before.rooms)
+      ≡ tree_at order groups sizes columns (at + 1) down.needs down.rooms
+  below = rw (n, m, s.same)
 
-    pub room_next : (next : ℕ) (between : List ℕ) {needs_back rooms_back : List ℕ} → next ≡ row + length (tree_at order groups sizes columns (at + 1) needs_below rooms_below) → length between ≡ length table → needs_back ≡ needs → rooms_back ≡ rooms
-        → (next + length (tree_from order groups sizes columns at (v + 1) (suc to - (v + 1)) needs_back rooms_back)) * groups ≤ length between
-    room_next next between e l n m =
-        let same : row + length (tree_from order groups sizes columns at v (suc to - v) needs rooms) ≡ next + length (tree_from order groups sizes columns at (v + 1) (suc to - (v + 1)) needs rooms) = omega (arith, rows_more) in
-        rw (n, m, l) (rw same at fits)
+  more : tree_from order groups sizes columns at 0 (v + 1 - 0) before.needs before.rooms
+      ≡ tree_from order groups sizes columns at 0 (v - 0) before.needs before.rooms ++ map (λ (w : List ℕ). v ∷ w) (tree_at order groups sizes columns (at + 1) down.needs down.rooms)
+  more = rw (← below) (values_possible k.here before.needs before.rooms 0 v (omega arith) (places list) (taken_column k) (rw s.same at k.can))
+
+  pub tried_possible : {same up : Unmet} {after written : List ℕ} {last : ℕ} → length values ≡ 1024
+      → same ≡ down → up.needs ≡ raised v (places list) same.needs → up.rooms ≡ raised (get_or sizes g 0) (places list) same.rooms
+      → Written groups (tree_at order groups sizes columns (at + 1) down.needs down.rooms) (unset order groups (at + 1)) (set tried g v) after out written next last
+      → TriedRows order groups sizes columns at (v + 1) before up values after table written row last
+  tried_possible long e p q w = record {
+    same = back k n m e p q ∙ s.same;
+    rows =
+        rw more
+        (written_more (omega (arith, k.here.ordered.few, long))
+        (each_mapped (λ (w : List ℕ). length w ≡ length (unset order groups at)) (λ (w : List ℕ). v ∷ w) (tree_at order groups sizes columns (at + 1) down.needs down.rooms)
+        (λ w i. rw (unset_more k.here) (ap suc (tree_at_wide order groups sizes columns (at + 1) down.needs down.rooms w i))))
+        s.rows (rw (unset_more k.here) (written_value tried g v w)));
+  }
+
+  -- there is room for them
+  pub room_below : (row + length (tree_at order groups sizes columns at before.needs before.rooms)) * groups ≤ length table → length out ≡ length table
+      → (next + length (tree_at order groups sizes columns (at + 1) down.needs down.rooms)) * groups ≤ length out
+  room_below fits kept =
+      let front = values_rest k.here before.needs before.rooms 0 (v + 1) (suc (get_or sizes g 0)) (omega arith) (omega (arith, k.within)) in
+      let count : length (tree_at order groups sizes columns at before.needs before.rooms)
+      ≡ length (tree_from order groups sizes columns at 0 (v - 0) before.needs before.rooms) + length (tree_at order groups sizes columns (at + 1) down.needs down.rooms)
+      + length (tree_from order groups sizes columns at (v + 1) (suc (get_or sizes g 0) - (v + 1)) before.needs before.rooms) =
+      ap length (tree_values k.here before.needs before.rooms (get_or sizes g 0) refl ∙ front)
+      ∙ length-append (tree_from order groups sizes columns at 0 (v + 1 - 0) before.needs before.rooms) (tree_from order groups sizes columns at (v + 1) (suc (get_or sizes g 0) - (v + 1)) before.needs before.rooms)
+      ∙ ap (λ (x : ℕ). x + length (tree_from order groups sizes columns at (v + 1) (suc (get_or sizes g 0) - (v + 1)) before.needs before.rooms))
+      (ap length more ∙ length-append (tree_from order groups sizes columns at 0 (v - 0) before.needs before.rooms) (map (λ (w : List ℕ). v ∷ w) (tree_at order groups sizes columns (at + 1) down.needs down.rooms))
+      ∙ ap (λ (x : ℕ). length (tree_from order groups sizes columns at 0 (v - 0) before.needs before.rooms) + x) (length-map (tree_at order groups sizes columns (at + 1) down.needs down.rooms) (λ (w : List ℕ). v ∷ w))) in
+      let less : (next + length (tree_at order groups sizes columns (at + 1) down.needs down.rooms)) * groups ≤ (row + length (tree_at order groups sizes columns at before.needs before.rooms)) * groups =
+      mul-le-mul_right groups (omega (arith, count, s.rows.count)) in
+      omega (arith, less, fits, kept)
 
 -- ---- room in the table
 

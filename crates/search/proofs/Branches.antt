@@ -61,6 +61,11 @@ tree_leaf order groups sizes columns at needs rooms e t met =
     ap (λ (gs : List ℕ). tree (λ (g : ℕ). get_or sizes g 0) (slot_cells columns) gs needs rooms) (unset_none order groups at e)
     ∙ ap (λ (b : Bool). cond b ([] ∷ []) []) met
 
+-- each solution has a value for each unset group
+pub tree_at_wide : (order : List ℕ) (groups : ℕ) (sizes columns : List ℕ) (at : ℕ) (needs rooms : List ℕ) → Each (λ row. length row ≡ length (unset order groups at)) (tree_at order groups sizes columns at needs rooms)
+unfolding tree_at
+tree_at_wide order groups sizes columns at needs rooms = tree_wide (λ (g : ℕ). get_or sizes g 0) (slot_cells columns) (unset order groups at) needs rooms
+
 -- ---- the values of a group
 
 module _ {order : List ℕ} {groups equations : ℕ} {sizes columns : List ℕ} {at g : ℕ} (h : Group order groups equations sizes columns at g) (needs rooms : List ℕ) where

@@ -1,20 +1,13 @@
--- `rows::write_row` meets its contract. The loop's invariant: the values from group g on, stored from there, give what all of them give from the
--- front. The measure is what is left of the groups. Assumes nothing.
-use Prim.Native.Nat.{◌-◌, ◌≤◌}
-use mathlib.Core.Path.{◌≡◌, ◌∙◌}
+-- `rows::write_row` meets its contract: what stands behind the row stays. Assumes nothing.
+use mathlib.Core.Path.{refl}
 use native.Mathlib.Omega.{arith}
-use lib.ListN.{length, take, drop}
-use lib.Seq.{sets}
-use borrow.Author.Rules.{rules}
-use Rattle.rows.proofs.WrittenRows.{row_next, row_end}
+use lib.ListN.{take}
+use native.Mathlib.Nat.{zero-add}
+use lib.Seq.{sets-eq, length-take-le}
 use Rattle.rows.proofs.write_row.Goals as goal
-
-pub loop-g-preserved : goal.loop-g-preserved
-loop-g-preserved c =
-    let loop = c.loop-g in
-    (search rules, search rules, row_next loop.table c.args.values.now c.args.groups loop.g c.loop-g-test.true (omega (arith, c.requires.0, c.requires.1)) ∙ loop.invariant.2)
 
 pub returns : goal.returns
 returns c =
-    let loop = c.loop-g in
-    row_end loop.table c.args.values.now c.args.groups loop.g c.loop-g-test.false ∙ loop.invariant.2
+    let row = take c.args.groups c.args.values.now in
+    let long = length-take-le c.args.groups c.args.values.now (omega (arith, c.requires.0, c.requires.1)) in
+    rw (c.copy_from_slice.ensures.after, sets-eq row c.args.table.now 0 (omega (arith, long, c.requires.2)), long, zero-add) refl
