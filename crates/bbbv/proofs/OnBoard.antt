@@ -19,7 +19,6 @@ use Rattle.refusals.specs.Tests.{bbbv_tested}
 use Rattle.refusals.proofs.Accepted.{accepted_bbbv}
 use Rattle.refusals.proofs.Admitted.{bbbv_accepted}
 use Rattle.fitting.specs.Boards.{Accepted}
-use Rattle.bbbv.specs.declared.BbbvAnswer.TheVariants.{Refused, Counted}
 use Rattle.bbbv.specs.Openings.{is_first, openings, bbbv}
 use Rattle.bbbv.specs.Groups.{IsBbbv}
 use Rattle.bbbv.specs.Flooded.{flooded, is_closed_safe, closed_safe}
@@ -54,21 +53,21 @@ module _ (edgeless : Bool) (rows columns : ℕ) (b : List ℕ) (board : Board b 
   board_bbbv = bbbv_counts (neighbours edgeless rows columns) b ok few both_ways
 
 module _ (edgeless : Bool) (rows columns : ℕ) (b : List ℕ) where
-  pub refused_answer_lem : {r : Refusal} → bbbv_tested edgeless rows columns b ≡ Err r → Refused r ≡ cal_bbbv edgeless rows columns b
+  pub refused_answer_lem : {r : Refusal} → bbbv_tested edgeless rows columns b ≡ Err r → Err r ≡ cal_bbbv edgeless rows columns b
   unfolding cal_bbbv
   refused_answer_lem h = rw h
 
-  pub counted_answer : {n : ℕ} → bbbv_tested edgeless rows columns b ≡ Ok tt → n ≡ bbbv (neighbours edgeless rows columns) b → Counted n ≡ cal_bbbv edgeless rows columns b
+  pub counted_answer : {n : ℕ} → bbbv_tested edgeless rows columns b ≡ Ok tt → n ≡ bbbv (neighbours edgeless rows columns) b → Ok n ≡ cal_bbbv edgeless rows columns b
   unfolding cal_bbbv
   counted_answer h e = rw (h, e)
 
   -- a number that the call answers is the 3BV of the board
-  pub answer_counts : (n : ℕ) → cal_bbbv edgeless rows columns b ≡ Counted n → IsBbbv (neighbours edgeless rows columns) b n
+  pub answer_counts : (n : ℕ) → cal_bbbv edgeless rows columns b ≡ Ok n → IsBbbv (neighbours edgeless rows columns) b n
   answer_counts n e = go (bbbv_tested edgeless rows columns b) refl
     where
       go : (t : Tested) → bbbv_tested edgeless rows columns b ≡ t → IsBbbv (neighbours edgeless rows columns) b n
-      go (Err r) h = let both : Refused r ≡ Counted n = refused_answer_lem h ∙ e in let z : ◌≡◌ {A = ℕ} 0 1 = cc in absurd (omega arith)
+      go (Err r) h = let both : Err r ≡ Ok n = refused_answer_lem h ∙ e in let z : ◌≡◌ {A = ℕ} 0 1 = cc in absurd (omega arith)
       go (Ok _) h =
-          let same : Counted (bbbv (neighbours edgeless rows columns) b) ≡ Counted n = counted_answer h refl ∙ e in
+          let same : Ok (bbbv (neighbours edgeless rows columns) b) ≡ Ok n = counted_answer h refl ∙ e in
           let is : bbbv (neighbours edgeless rows columns) b ≡ n = cc in
           rw is at (board_bbbv edgeless rows columns b (accepted_bbbv edgeless rows columns b h).board (bbbv_accepted edgeless rows columns b h))

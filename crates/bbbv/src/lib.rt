@@ -2,8 +2,8 @@
 // opening takes one, counted where a flood begins; each safe cell that the floods leave closed touches no zero, and takes one of its own.
 #![tactic(auto)]
 
-ghost use Rattle.std.specs.Prelude.{◌≡◌, ℕ, length};
-ghost use Rattle.grid.specs.Window.{neighbours, Board};
+ghost use Rattle.std.specs.Prelude.{◌≡◌, ℕ, Ok, length};
+ghost use Rattle.grid.specs.Window.{neighbours, neighbours_on, Board};
 ghost use Rattle.fitting.specs.Boards.{Accepted};
 ghost use Rattle.bbbv.specs.Openings.{all_closed, openings, bbbv};
 ghost use Rattle.bbbv.specs.Groups.{IsBbbv};
@@ -13,13 +13,6 @@ ghost use Rattle.bbbv.specs.Answer.{cal_bbbv};
 use flood::refresh_board;
 use grid::window::Size;
 use refusals::{Refusal, test_bbbv};
-
-// What the 3BV call answers.
-#[derive(Clone, Copy)]
-pub enum BbbvAnswer {
-    Refused(Refusal),
-    Counted(usize),
-}
 
 // The openings: a zero that is still closed is the first of its opening, which is flooded.
 fn count_openings(
@@ -94,20 +87,10 @@ fn count_bbbv(edgeless: bool, rows: usize, columns: usize, cells: &[u8]) -> usiz
 }
 
 // cal_bbbv: refusals 1, 2, 3 and 5, then the 3BV.
-pub fn cal_bbbv(edgeless: bool, rows: usize, columns: usize, cells: &[u8]) -> BbbvAnswer
-    ensures value { result ≡ cal_bbbv edgeless rows columns cells.now }
-    ensures by_index { (n : ℕ) → result ≡ BbbvAnswer.Counted n → IsBbbv (neighbours edgeless rows columns) cells.now n }
+pub fn cal_bbbv(size: Size, cells: &[u8]) -> Result<usize, Refusal>
+    ensures value { result ≡ cal_bbbv size.edgeless size.rows size.columns cells.now }
+    ensures by_index { (n : ℕ) → result ≡ Ok n → IsBbbv (neighbours_on size) cells.now n }
 {
-    let tested = test_bbbv(
-        Size {
-            edgeless,
-            rows,
-            columns,
-        },
-        cells,
-    );
-    match tested {
-        Err(refusal) => BbbvAnswer::Refused(refusal),
-        Ok(()) => BbbvAnswer::Counted(count_bbbv(edgeless, rows, columns, cells)),
-    }
+    test_bbbv(size, cells)?;
+    Ok(count_bbbv(size.edgeless, size.rows, size.columns, cells))
 }

@@ -11,53 +11,31 @@ ghost use Rattle.blocks.specs.BlockSets.{block_set};
 ghost use Rattle.frontier.specs.Frontier.{frontier};
 ghost use Rattle.frontier.specs.Answer.{refresh_matrixs};
 
-use blocks::{BlockSet, empty_set};
+use blocks::BlockSet;
 use filling::{fill_cells, fill_equations};
 use grid::window::Size;
 use growth::{drop_first, grow_block};
 use refusals::{Refusal, test_position};
 use sources::read_sources;
 
-// What refresh_matrixs answers: the tests' answer, the blocks, the closed cells that touch no open one, and the known mines.
+// What refresh_matrixs answers: the blocks, the closed cells that touch no open one, and the known mines.
 #[derive(Drop)]
 pub struct FrontierAnswer {
-    pub tested: Result<(), Refusal>,
     pub blocks: BlockSet,
     pub inside_cell: usize,
     pub is_minenum: usize,
 }
 
-// The frontier of a position; no blocks where the position is refused.
-pub fn refresh_matrixs(
-    edgeless: bool,
-    rows: usize,
-    columns: usize,
-    position: &[u8],
-) -> FrontierAnswer
-    ensures { result ≡ refresh_matrixs edgeless rows columns position.now }
+// The frontier of a position.
+pub fn refresh_matrixs(size: Size, position: &[u8]) -> Result<FrontierAnswer, Refusal>
+    ensures { result ≡ refresh_matrixs size.edgeless size.rows size.columns position.now }
 {
-    let tested = test_position(
-        Size {
-            edgeless,
-            rows,
-            columns,
-        },
-        position,
-    );
-    match tested {
-        Ok(()) => FrontierAnswer {
-            tested,
-            blocks: read_blocks(edgeless, rows, columns, position),
-            inside_cell: counts::inside_cells(edgeless, rows, columns, position),
-            is_minenum: counts::known_mines(position),
-        },
-        Err(_) => FrontierAnswer {
-            tested,
-            blocks: empty_set(),
-            inside_cell: 0,
-            is_minenum: 0,
-        },
-    }
+    test_position(size, position)?;
+    Ok(FrontierAnswer {
+        blocks: read_blocks(size.edgeless, size.rows, size.columns, position),
+        inside_cell: counts::inside_cells(size.edgeless, size.rows, size.columns, position),
+        is_minenum: counts::known_mines(position),
+    })
 }
 
 // The blocks of a position, of any size that the tests accept.

@@ -2,14 +2,14 @@
 -- corners top left, top right, bottom left and bottom right, in this order; and it is the only pattern of its board, since without the first mine there is none. And the
 -- answers to SPECIFICATION 12.9 and to boards that are refused. All by computation. Assumes nothing.
 use mathlib.Core.Path.{◌≡◌, refl}
-use mathlib.Core.Bool.{Bool, true, not, cond, ◌&&◌}
+use mathlib.Core.Bool.{Bool, true, false, not, cond, ◌&&◌}
 use mathlib.Core.List.{List, [], ◌∷◌, map}
 use Prim.Native.Nat.{ℕ, ◌+◌, ◌*◌}
 use lib.ListN.{drop, replicate}
 use Rattle.lists.specs.Lists.{range, has, all, joined}
 use Rattle.refusals.specs.declared.Refusal.TheVariants.{Size, Length, Cell}
 use Rattle.refusals.specs.Tests.{size_ok, length_ok, board_cells_ok, pattern_tested}
-use Rattle.patterns.specs.declared.PatternAnswer.TheVariants.{Refused, NotFound, Found}
+use Rattle.std.specs.Prelude.{Ok, Err}
 use Rattle.patterns.specs.Shapes.{among_mines, framed, found_at, found_anywhere, found_in_corner, pattern_found}
 use Rattle.patterns.specs.Answer.{unsolvable_structure}
 
@@ -113,27 +113,27 @@ every_shape_found = refl
 -- ---- answers
 
 -- case 9: 3 × 3, all mines but the first cell
-pub all_mines_but_one : unsolvable_structure 3 3 (3 ∷ replicate 8 255) ≡ Found
+pub all_mines_but_one : unsolvable_structure 3 3 (3 ∷ replicate 8 255) ≡ Ok true
 unfolding unsolvable_structure pattern_tested size_ok length_ok board_cells_ok among_mines framed found_at found_anywhere found_in_corner pattern_found
 all_mines_but_one = refl
 
 -- no mine; and any number is accepted
-pub no_mine : unsolvable_structure 3 3 (8 ∷ replicate 8 0) ≡ NotFound
+pub no_mine : unsolvable_structure 3 3 (8 ∷ replicate 8 0) ≡ Ok false
 unfolding unsolvable_structure pattern_tested size_ok length_ok board_cells_ok among_mines framed found_at found_anywhere found_in_corner pattern_found
 no_mine = refl
 
-pub two_rows_lem : unsolvable_structure 2 3 (replicate 6 255) ≡ Refused Size
+pub two_rows_lem : unsolvable_structure 2 3 (replicate 6 255) ≡ Err Size
 unfolding unsolvable_structure pattern_tested size_ok
 two_rows_lem = refl
 
-pub thirty_three_columns : unsolvable_structure 3 33 (replicate 99 255) ≡ Refused Size
+pub thirty_three_columns : unsolvable_structure 3 33 (replicate 99 255) ≡ Err Size
 unfolding unsolvable_structure pattern_tested size_ok
 thirty_three_columns = refl
 
-pub eight_cells : unsolvable_structure 3 3 (replicate 8 255) ≡ Refused Length
+pub eight_cells : unsolvable_structure 3 3 (replicate 8 255) ≡ Err Length
 unfolding unsolvable_structure pattern_tested size_ok length_ok
 eight_cells = refl
 
-pub nine : unsolvable_structure 3 3 (replicate 9 9) ≡ Refused Cell
+pub nine : unsolvable_structure 3 3 (replicate 9 9) ≡ Err Cell
 unfolding unsolvable_structure pattern_tested size_ok length_ok board_cells_ok
 nine = refl

@@ -14,30 +14,14 @@ use grid::window::{Size, cell_number};
 use refusals::{Refusal, test_pattern};
 use table::pattern_found;
 
-// What the pattern call answers.
-#[derive(Clone, Copy)]
-pub enum PatternAnswer {
-    Refused(Refusal),
-    NotFound,
-    Found,
-}
-
 // Whether a board has a pattern; refused below 3 rows or columns too. Numbers play no part.
-pub fn unsolvable_structure(rows: usize, columns: usize, cells: &[u8]) -> PatternAnswer
+pub fn unsolvable_structure(rows: usize, columns: usize, cells: &[u8]) -> Result<bool, Refusal>
     ensures { result ≡ unsolvable_structure rows columns cells.now }
 {
-    let tested = test_pattern(Size::flat(rows, columns), cells);
-    match tested {
-        Err(refusal) => PatternAnswer::Refused(refusal),
-        Ok(()) => {
-            let mut board = [[255u8; 32]; 32];
-            lay(&mut board, rows, columns, cells);
-            if pattern_found(&board, rows, columns) {
-                return PatternAnswer::Found;
-            }
-            PatternAnswer::NotFound
-        }
-    }
+    test_pattern(Size::flat(rows, columns), cells)?;
+    let mut board = [[255u8; 32]; 32];
+    lay(&mut board, rows, columns, cells);
+    Ok(pattern_found(&board, rows, columns))
 }
 
 // Copies the board into 32 rows of 32 cells, which are all 255: a safe cell becomes 0.

@@ -1,47 +1,34 @@
--- `refresh_matrixs` meets its contract: the tests' answer decides between the two forms of the definition's answer, and an acceptance tells that the
--- position is a board of at most 1,024 cells. Rests on the contracts of the calls and on the facts of an accepted position. Assumes nothing.
-use mathlib.Core.Path.{◌≡◌, sym, ◌∙◌}
+-- `refresh_matrixs` meets its contract: a refusal by the tests is the call's, and an acceptance tells that the position is a board of at most 1,024 cells. Rests on
+-- the contracts of the calls and on the facts of an accepted position. Assumes nothing.
+use mathlib.Core.Path.{◌≡◌, sym}
 use native.Mathlib.Omega.{arith}
-use borrow.Author.Rules.{rules}
+use Rattle.std.proofs.lemmas.Result.{err_from_is_err_and}
+use Rattle.grid.specs.Window.{Board}
 use Rattle.grid.proofs.Places.{few_cells}
-use Rattle.refusals.specs.Tests.{position_tested}
-use Rattle.refusals.proofs.Accepted.{AcceptedPosition, accepted_position}
+use Rattle.refusals.proofs.Accepted.{accepted_position}
 use Rattle.frontier.specs.Answer.{refresh_matrixs}
 use Rattle.frontier.proofs.refresh_matrixs.Goals as goal
-use Rattle.frontier.proofs.refresh_matrixs.Goals.{In-Ok}
-use Rattle.refusals.specs.Refusals.{Accepted}
+use Rattle.frontier.proofs.refresh_matrixs.Goals.{In_ok-test_position}
 
--- the tests accept the position
-accepted : (c : In-Ok)
-    → (let a = c.args in position_tested a.rows a.columns a.position.now ≡ Accepted)
-accepted c = sym c.test_position-tested.ensures ∙ c.in-Ok.is
+-- a position that the tests accept is a board
+board : (c : In_ok-test_position) → (let a = c.args in Board a.position.now a.size.rows a.size.columns)
+board c = (accepted_position _ _ _ (sym c.in_ok-test_position.ensures)).board
 
--- so this is known of it
-facts : (c : In-Ok) → (let a = c.args in AcceptedPosition a.rows a.columns a.position.now)
-facts c = accepted_position _ _ _ (accepted c)
+pub returns-in_err-test_position : goal.returns-in_err-test_position
+unfolding refresh_matrixs
+returns-in_err-test_position c =
+    let p = err_from_is_err_and c.from_residual.result c.from_residual.ensures.1 in
+    rw (p.1, p.2, ← c.in_err-test_position.ensures)
 
 pub read_blocks-requires : goal.read_blocks-requires
-read_blocks-requires c = (facts c).board
+read_blocks-requires c = board c
 
 pub inside_cells-requires : goal.inside_cells-requires
-inside_cells-requires c = (facts (goal.at.inside_cells-requires c).In-Ok).board
+inside_cells-requires c = board (goal.at.inside_cells-requires c).In_ok-test_position
 
 pub known_mines-requires : goal.known_mines-requires
-known_mines-requires c = let board = (facts (goal.at.known_mines-requires c).In-Ok).board in omega (arith, board.whole, few_cells board.sized)
+known_mines-requires c = let known = board (goal.at.known_mines-requires c).In_ok-test_position in omega (arith, known.whole, few_cells known.sized)
 
-pub returns-in-Ok : goal.returns-in-Ok
+pub returns : goal.returns
 unfolding refresh_matrixs
-returns-in-Ok c =
-    rw (
-      c.in-Ok.is,
-      c.read_blocks.ensures,
-      c.inside_cells.ensures,
-      c.known_mines.ensures,
-      accepted (goal.at.returns-in-Ok c).In-Ok,
-    )
-
-pub returns-in-Err : goal.returns-in-Err
-unfolding refresh_matrixs
-returns-in-Err c =
-    let told = c.in-Err.is in
-    rw (told, c.empty_set.ensures, sym c.test_position-tested.ensures ∙ told)
+returns c = rw (← c.in_ok-test_position.ensures, c.read_blocks.ensures, c.inside_cells.ensures, c.known_mines.ensures)
