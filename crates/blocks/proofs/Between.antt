@@ -6,14 +6,18 @@ use mathlib.Core.List.{List, [], ◌∷◌, map}
 use Prim.Native.Nat.{ℕ, zero, suc, ◌+◌, ◌-◌, ◌*◌, ◌≤◌, ◌<◌}
 use native.Mathlib.Omega.{arith}
 use lib.Dec.{eqb, ltb}
-use lib.ListN.{length, get_or, take, drop, length-take}
-use Rattle.lists.specs.Lists.{any, all}
+use lib.ListN.{length, get_or, take, drop, length-take, length-map}
+use borrow.Author.Tests.{lt-ltb}
+use Rattle.lists.specs.Lists.{range, any, all}
 use Rattle.lists.proofs.Members.{range_more, range_none}
+use Rattle.lists.proofs.Rearranged.{length_range}
+use Rattle.lists.proofs.PlacesAndRanges.{all_places}
+use Rattle.lists.proofs.ReadBack.{range_made}
 use Rattle.grid.specs.Window.{listed}
 use Rattle.grid.specs.declared.window.UpToEight.{UpToEight}
 use Rattle.blocks.specs.Blocks.{BlockEquation}
 use Rattle.blocks.specs.BlockSets.{before, slot_cells, begin_at}
-use Rattle.blocks.specs.Places.{marked, OnBoard, Slots, cells_from, equations_from}
+use Rattle.blocks.specs.Places.{marked, OnBoard, Slots, Cells, cells_from, equations_from}
 use Rattle.blocks.proofs.EightCells.{cells_listed}
 
 -- ---- cells
@@ -25,6 +29,28 @@ cells_more cells i end h = ap (map (λ (k : ℕ). get_or cells k 0)) (range_more
 pub cells_none : (cells : List ℕ) (i end : ℕ) → end ≤ i → cells_from cells i end ≡ []
 unfolding cells_from
 cells_none cells i end h = ap (map (λ (k : ℕ). get_or cells k 0)) (range_none i end h)
+
+module _ (cells : List ℕ) (first end : ℕ) where
+  pub length_cells : length (cells_from cells first end) ≡ end - first
+  unfolding cells_from
+  length_cells = length-map (range first (end - first)) (λ (k : ℕ). get_or cells k 0) ∙ length_range first (end - first)
+
+  -- one of them, by its place among them
+  pub cells_read : (k : ℕ) → k < length (cells_from cells first end) → get_or (cells_from cells first end) k 0 ≡ get_or cells (first + k) 0
+  unfolding cells_from
+  cells_read k h = range_made (λ (j : ℕ). get_or cells j 0) first (end - first) k 0 (omega (arith, length_cells))
+
+  pub cell_place : (items : List ℕ) (k x : ℕ) → items ≡ cells_from cells first end → k < length items → x ≡ get_or items k 0
+      → (first + k < end) × (x ≡ get_or cells (first + k) 0)
+  cell_place items k x e h at =
+      let inside : k < length (cells_from cells first end) = rw e at h in
+      (omega (arith, length_cells), at ∙ ap (λ (l : List ℕ). get_or l k 0) e ∙ cells_read k inside)
+
+  -- they are on the board
+  pub cells_below : Cells cells end → all (λ c. ltb c 1024) (cells_from cells first end) ≡ true
+  cells_below c =
+      all_places (λ d. ltb d 1024) (cells_from cells first end) 0
+      (λ k u. rw (cells_read k u) (lt-ltb (get_or cells (first + k) 0) 1024 (c.below (first + k) (omega (arith, length_cells)))))
 
 -- ---- equations
 

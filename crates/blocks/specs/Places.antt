@@ -71,9 +71,12 @@ block_from cells slots rests bounds = record {
   equations = equations_from slots rests bounds.first_equation bounds.end_equation;
 }
 
--- the same of a set's arrays: a block that stands in it, and the block
+-- the same of a set's arrays: a block stands in them; its equations; and the block
 abbrev pub Stands : BlockSet → Bounds → Type 0
 Stands set bounds = Arrays set.cells set.slots set.rests bounds
+
+abbrev pub equations_between : BlockSet → Bounds → List BlockEquation
+equations_between set bounds = equations_from set.slots set.rests bounds.first_equation bounds.end_equation
 
 abbrev pub block_between : BlockSet → Bounds → Block
 block_between set bounds = block_from set.cells set.slots set.rests bounds

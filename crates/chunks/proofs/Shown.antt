@@ -65,13 +65,14 @@ module _ (marks cells slots rests : List ℕ) (bounds : Bounds) where
     module _ (next : ℕ) (behind : next ≡ e + length shown_places) (stored : List ℕ)
         (is : stored ≡ sets out.slots (e * 8) (joined (map (λ (x : ℕ). pad 8 65535 (reverse (slot_cells slots x))) shown_places))) where
       -- there is none
-      pub shown_nothing : next ≡ e
-          → record { cells = out.cells; cell_ends = out.cell_ends; slots = stored; rests = out.rests; equation_ends = out.equation_ends; blocks = out.blocks }
+      pub shown_nothing : next ≡ e → (kept : List ℕ) → kept ≡ sets out.rests e (map (λ (x : ℕ). get_or rests x 0) shown_places)
+          → record { cells = out.cells; cell_ends = out.cell_ends; slots = stored; rests = kept; equation_ends = out.equation_ends; blocks = out.blocks }
           ≡ block_set (blocks_of out ++ marked_part marks cells slots rests bounds)
-      shown_nothing h =
+      shown_nothing h kept b =
           let none : shown_places ≡ [] = nothing shown_places (omega arith) in
           let same : stored ≡ out.slots = is ∙ ap (λ (l : List ℕ). sets out.slots (e * 8) (joined (map (λ (x : ℕ). pad 8 65535 (reverse (slot_cells slots x))) l))) none in
-          rw (same, shown_none (ap empty none), append-nil (blocks_of out)) room.held.is
+          let still : kept ≡ out.rests = b ∙ ap (λ (l : List ℕ). sets out.rests e (map (λ (x : ℕ). get_or rests x 0) l)) none in
+          rw (same, still, shown_none (ap empty none), append-nil (blocks_of out)) room.held.is
         where
           nothing : (l : List ℕ) → length l ≡ 0 → l ≡ []
           nothing [] w = refl

@@ -5,6 +5,7 @@ use Rattle.lists.specs.Lists.{range, keep, any, empty}
 use Rattle.blocks.specs.Blocks.{BlockEquation, Block}
 use Rattle.blocks.specs.BlockSets.{slot_cells}
 use Rattle.blocks.specs.Places.{marked, Marks, cells_from}
+use Rattle.blocks.specs.declared.BlockSet.{BlockSet}
 use Rattle.blocks.specs.declared.Bounds.{Bounds}
 use Rattle.chunks.specs.Chunks.{parts}
 
@@ -33,6 +34,13 @@ marked_part marks cells slots rests bounds =
       equations = map (λ (e : ℕ). record { cells = reverse (slot_cells slots e); rest = get_or rests e 0 }) (marked_places marks slots bounds.first_equation bounds.end_equation);
     }
     ∷ [])
+
+-- the same in the arrays of a set
+abbrev pub places_shown : List ℕ → BlockSet → Bounds → List ℕ
+places_shown marks set bounds = marked_places marks set.slots bounds.first_equation bounds.end_equation
+
+abbrev pub part_shown : List ℕ → BlockSet → Bounds → List Block
+part_shown marks set bounds = marked_part marks set.cells set.slots set.rests bounds
 
 -- all parts of a block
 unfoldable pub all_parts : Block → List Block

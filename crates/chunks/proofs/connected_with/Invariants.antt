@@ -1,17 +1,12 @@
-use Prim.Native.Nat.{ℕ, ◌+◌, ◌-◌}
-use mathlib.Core.Path.{◌≡◌, refl, ◌∙◌}
-use mathlib.Core.List.{List, [], ◌∷◌}
-use native.Mathlib.Omega.{arith}
-use lib.ListN.{length, replicate, length-replicate, length-set}
-use borrow.Author.Tests.{not-true}
-use Rattle.blocks.proofs.MarkLaws.{marks_first}
-use Rattle.blocks.specs.Places.{equations_from}
-use Rattle.chunks.proofs.Marking.{Connecting, connecting_next, connecting_still, connecting_end}
-use borrow.Author.Rules.{rules}
-use mathlib.Core.Path.{ap}
-use mathlib.Core.Bool.{not}
+-- The loop's invariant: the marks are those of a list which the looks still to come connect with the cell.
+use Prim.Native.Nat.{◌-◌}
+use mathlib.Core.Path.{◌≡◌}
+use lib.ListN.{length}
+use Rattle.blocks.specs.Places.{equations_between}
+use Rattle.chunks.proofs.Marking.{Connecting}
 use Rattle.chunks.proofs.connected_with.Given as goal
 
-abbrev pub invariant-loop-e : goal.invariant-loop-e
-invariant-loop-e l =
-    (length l.marks ≡ 1024) × ((rests : List ℕ) → Connecting (equations_from l.slots rests l.first l.end) (l.end - l.e) (l.end - l.first) l.c l.marks)
+abbrev pub invariant-loop-look : goal.invariant-loop-look
+invariant-loop-look l =
+    (length l.marks ≡ 1024)
+    × Connecting (equations_between l.set l.bounds) (l.bounds.end_equation - l._look) (l.bounds.end_equation - l.bounds.first_equation) l.c l.marks

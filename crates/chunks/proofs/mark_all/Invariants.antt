@@ -1,20 +1,15 @@
-use Prim.Native.Nat.{ℕ, ◌-◌, ◌≤◌}
-use mathlib.Core.Path.{◌≡◌, ap, ◌∙◌}
-use mathlib.Core.List.{List, [], ◌∷◌, ◌++◌}
-use mathlib.Core.Logic.{⊎_elim}
-use native.Mathlib.Omega.{arith}
-use lib.ListN.{length, take, drop, length-set}
-use borrow.Author.Tests.{eq-eqb, ne_eqb}
+-- The loop's invariant, for each list of which the marks were those at the start: the marks are those of a list to which the cells still to come are to be
+-- added, and without a new mark it is the list at the start.
+use mathlib.Core.Path.{◌≡◌}
+use mathlib.Core.List.{List}
+use Prim.Native.Nat.{ℕ}
+use lib.ListN.{length, drop}
 use Rattle.lists.specs.Lists.{add_new}
-use Rattle.lists.proofs.Counted.{counted_none}
-use Rattle.blocks.proofs.MarkLaws.{marks_push, list_next, list_below}
 use Rattle.blocks.specs.Places.{Marks}
-use Rattle.chunks.proofs.Marking.{Towards, towards_start, towards_end, towards_pass, towards_new, adding_old, adding_new}
-use borrow.Author.Rules.{rules}
+use Rattle.chunks.proofs.Marking.{Towards}
 use Rattle.chunks.proofs.mark_all.Given as goal
 
-abbrev pub invariant-loop-k : goal.invariant-loop-k
-invariant-loop-k loop =
-    (loop.k ≤ loop.len)
-    × (length loop.marks ≡ 1024)
-    × ((l : List ℕ) → Marks loop.initial.marks l → Towards (λ (x : List ℕ). add_new x (drop loop.k (take loop.len loop.cells))) (add_new l (take loop.len loop.cells)) l loop.marks loop.new)
+abbrev pub invariant-loop-cell : goal.invariant-loop-cell
+invariant-loop-cell l =
+    (length l.marks ≡ 1024)
+    × ((k : List ℕ) → Marks l.initial.marks k → Towards (λ (x : List ℕ). add_new x (drop l.cell-index l.cell-items)) (add_new k l.cell-items) k l.marks l.new)

@@ -1,63 +1,58 @@
--- `chunks::put_cells` meets its contract. The loop's invariant: the marked cells before place i, from the last to the first, stored from place k on, give
--- what all of them give from `at` on. The measure is i. Rests on the laws of `Storing`. Assumes nothing.
-use Prim.Native.Nat.{ℕ, ◌-◌, ◌≤◌, ◌<◌}
+-- `chunks::put_cells` meets its contract. The loop's invariant is told beside it. Rests on the laws of `Storing`. Assumes nothing.
+use Prim.Native.Nat.{◌+◌}
 use mathlib.Core.Path.{◌≡◌, refl, sym, ap, ◌∙◌}
-use mathlib.Core.List.{map-id, [], ◌∷◌}
+use mathlib.Core.List.{map-id, ◌∷◌, reverse}
 use native.Mathlib.Omega.{arith}
-use lib.ListN.{set}
-use borrow.Author.Tests.{eq-eqb, ne_eqb}
-use Rattle.chunks.specs.Splitting.{marked_cells}
-use Rattle.lists.proofs.Storing.{Storing, storing_start, storing_room, storing_next, storing_pass, storing_end, single_store, single_stored}
-use Rattle.chunks.proofs.Gathered.{cell_kept, cell_passed, cell_none}
+use lib.ListN.{length, drop}
 use lib.Seq.{sets}
-use borrow.Author.Rules.{rules}
+use borrow.Author.Tests.{eq-eqb, ne_eqb}
+use Rattle.std.proofs.lemmas.List.{length_push}
+use Rattle.std.proofs.lemmas.Iterator.Adapters.{YieldsList-from_rev_slice}
+use Rattle.std.proofs.lemmas.Iterator.Consumers.{YieldsList-turn, YieldsList-end}
+use Rattle.lists.specs.Lists.{keep}
+use Rattle.lists.proofs.Arrays.{drop_next, drop_none}
+use Rattle.lists.proofs.Storing.{storing_start, storing_room, storing_next, storing_pass, storing_end, single_store, single_stored}
+use Rattle.lists.proofs.StoredAndKept.{keep_next, keep_pass}
+use Rattle.lists.proofs.TurnedRound.{keep_reverse}
+use Rattle.blocks.specs.Places.{marked}
 use Rattle.chunks.proofs.put_cells.Goals as goal
-use Rattle.chunks.proofs.put_cells.Goals.{Then-marks-wide-eq1}
+use Rattle.chunks.proofs.put_cells.Goals.{After-wide, Then-marks-wide-eq1}
 
-pub loop-i-init : goal.loop-i-init
-loop-i-init c = (search rules, storing_start c.requires.out_len)
+pub loop-cell-init : goal.loop-cell-init
+loop-cell-init c = (tt, tt, storing_pass (storing_start c.requires.out_len) (sym (keep_reverse (marked c.args.marks.now) c.args.cells.now)))
 
-pub bounds-marks-wide : goal.bounds-marks-wide
-bounds-marks-wide c = rw c.wide.ensures (c.requires.cells.below (c.loop-i.i - 1) (omega (arith, c.loop-i-test.true)))
+-- the next cell is the first of those still to come
+more : (c : After-wide)
+    → drop (length c.loop-cell.yielded) (reverse c.args.cells.now) ≡ c.in-Some.field-0.now ∷ drop (length c.loop-cell.yielded + 1) (reverse c.args.cells.now)
+more c =
+    let turn = YieldsList-turn (YieldsList-from_rev_slice c.args.cells.now cc) c.loop-cell.yielded _ c.loop-cell.yielded_by _ _ _ c.in-Some.is c.next.ensures.steps in
+    drop_next (reverse c.args.cells.now) (length c.loop-cell.yielded) _ _ turn.0 turn.1
 
--- the cell before place i is kept
+-- and where it is marked, of the marked ones
 kept : (c : Then-marks-wide-eq1)
-    → marked_cells c.args.marks.now c.args.cells.now c.args.first c.loop-i.i
-    ≡ c.wide.result ∷ marked_cells c.args.marks.now c.args.cells.now c.args.first (c.loop-i.i - 1)
-kept c =
-    cell_kept c.args.marks.now c.args.cells.now c.args.first c.loop-i.i _ c.wide.ensures c.loop-i-test.true (eq-eqb _ _ c.if-marks-wide-eq1.true)
-
--- and there is room for it
-room : (c : Then-marks-wide-eq1) → c.loop-i.k < 1024
-room c = storing_room c.loop-i.invariant.1 (kept c) 1024 c.requires.end_bound
-
-pub offset_bounds-out-k : goal.offset_bounds-out-k
-offset_bounds-out-k c = omega (arith, room c)
+    → keep (marked c.args.marks.now) (drop (length c.loop-cell.yielded) (reverse c.args.cells.now))
+    ≡ c.in-Some.field-0.now ∷ keep (marked c.args.marks.now) (drop (length c.loop-cell.yielded + 1) (reverse c.args.cells.now))
+kept c = keep_next (marked c.args.marks.now) _ (more (goal.at.Then-marks-wide-eq1 c).After-wide) (eq-eqb _ _ (rw c.wide.ensures at c.if-marks-wide-eq1.true))
 
 pub bounds-out-k : goal.bounds-out-k
-bounds-out-k c = room (goal.at.bounds-out-k c).Then-marks-wide-eq1
+bounds-out-k c = storing_room c.loop-cell.invariant.2 (kept (goal.at.bounds-out-k c).Then-marks-wide-eq1) 1024 c.requires.end_bound
 
-pub overflow_add-k : goal.overflow_add-k
-overflow_add-k c = omega (arith, room (goal.at.overflow_add-k c).Then-marks-wide-eq1)
+pub loop-cell-preserved-then-marks-wide-eq1 : goal.loop-cell-preserved-then-marks-wide-eq1
+loop-cell-preserved-then-marks-wide-eq1 c =
+    let loop = c.loop-cell in
+    let next = kept (goal.at.loop-cell-preserved-then-marks-wide-eq1 c).Then-marks-wide-eq1 in
+    (tt, tt, rw length_push (storing_next loop.invariant.2 next refl _ (single_store loop.out loop.k _)))
 
-pub loop-i-preserved-then-marks-wide-eq1 : goal.loop-i-preserved-then-marks-wide-eq1
-loop-i-preserved-then-marks-wide-eq1 c =
-    let loop = c.loop-i in
-    let x = c.wide.result in (
-      search rules,
-      storing_next loop.invariant.1 (kept (goal.at.loop-i-preserved-then-marks-wide-eq1 c).Then-marks-wide-eq1) refl _ (ap (λ (y : ℕ). set loop.out loop.k y) (sym c.wide.ensures) ∙ single_store loop.out loop.k x),
-    )
-
-pub loop-i-preserved : goal.loop-i-preserved
-loop-i-preserved c =
-    let loop = c.loop-i in (
-      search rules,
-      storing_pass loop.invariant.1
-          (cell_passed c.args.marks.now c.args.cells.now c.args.first loop.i _ c.wide.ensures c.loop-i-test.true (ne_eqb _ _ c.if-marks-wide-eq1.false)),
-    )
+pub loop-cell-preserved : goal.loop-cell-preserved
+loop-cell-preserved c =
+    let next = more (goal.at.loop-cell-preserved c).After-wide in
+    (tt, tt, rw length_push (storing_pass c.loop-cell.invariant.2 (keep_pass (marked c.args.marks.now) _ next (ne_eqb _ _ (rw c.wide.ensures at c.if-marks-wide-eq1.false)))))
 
 pub returns : goal.returns
 returns c =
-    let loop = c.loop-i in
-    let end = storing_end loop.invariant.1 (cell_none c.args.marks.now c.args.cells.now c.args.first loop.i c.loop-i-test.false) in
-    let all = marked_cells c.args.marks.now c.args.cells.now c.args.first c.args.end in record { value = end.0; out_after = single_stored (λ x. x) c.args.out.now c.args.at all loop.out end.1 ∙ ap (sets c.args.out.now c.args.at) (map-id all) }
+    let loop = c.loop-cell in
+    let all = reverse (keep (marked c.args.marks.now) c.args.cells.now) in
+    let seen = YieldsList-end (YieldsList-from_rev_slice c.args.cells.now cc) loop.yielded _ loop.yielded_by _ _ c.in-None.is c.next.ensures.steps in
+    let none = drop_none (reverse c.args.cells.now) (length loop.yielded) (omega (arith, seen.1)) in
+    let end = storing_end loop.invariant.2 (ap (keep (marked c.args.marks.now)) none) in
+    record { value = end.0; out_after = single_stored (λ x. x) c.args.out.now c.args.at all loop.out end.1 ∙ ap (sets c.args.out.now c.args.at) (map-id all) }

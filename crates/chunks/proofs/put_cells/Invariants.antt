@@ -1,19 +1,14 @@
-use Prim.Native.Nat.{ℕ, ◌-◌, ◌≤◌, ◌<◌}
-use mathlib.Core.Path.{◌≡◌, refl, sym, ap, ◌∙◌}
-use mathlib.Core.List.{map-id, [], ◌∷◌}
-use native.Mathlib.Omega.{arith}
-use lib.ListN.{set}
-use borrow.Author.Tests.{eq-eqb, ne_eqb}
-use Rattle.chunks.specs.Splitting.{marked_cells}
-use Rattle.lists.proofs.Storing.{Storing, storing_start, storing_room, storing_next, storing_pass, storing_end, single_store, single_stored}
-use Rattle.chunks.proofs.Gathered.{cell_kept, cell_passed, cell_none}
-use lib.Seq.{sets}
-use borrow.Author.Rules.{rules}
+-- The loop's invariant: the marked cells still to come, from the last to the first, stored from place k on, give what all of them give from `at` on.
+use Prim.Native.Nat.{ℕ}
+use mathlib.Core.List.{[], ◌∷◌, reverse}
+use lib.ListN.{length, drop}
+use Rattle.lists.specs.Lists.{keep}
+use Rattle.lists.proofs.Storing.{Storing}
+use Rattle.blocks.specs.Places.{marked}
 use Rattle.chunks.proofs.put_cells.Given as goal
 
-abbrev pub invariant-loop-i : goal.invariant-loop-i
-invariant-loop-i l =
-    (l.i ≤ l.end) × Storing 1024 1 (λ (x : ℕ). x ∷ []) l.initial.out l.at (marked_cells l.marks l.cells l.first l.end) l.out l.k (marked_cells l.marks l.cells l.first l.i)
-
-abbrev pub decreases-loop-i : goal.decreases-loop-i
-decreases-loop-i l = l.i
+abbrev pub invariant-loop-cell : goal.invariant-loop-cell
+invariant-loop-cell l =
+    (goal.iterator-loop-cell).can_next l.cell-iterator
+    × (goal.iterator-loop-cell).is_finite l.cell-iterator
+    × Storing 1024 1 (λ (x : ℕ). x ∷ []) l.initial.out l.at (reverse (keep (marked l.marks) l.cells)) l.out l.k (keep (marked l.marks) (drop (length l.yielded) (reverse l.cells)))

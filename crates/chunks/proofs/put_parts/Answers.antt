@@ -1,69 +1,73 @@
--- `chunks::put_parts` meets its contract. The loop's invariant: the blocks put so far, with the parts of the cells from place i on that are not done, are all
--- of them. The measure is what is left. Rests on the laws of `Growing` and on `parts_others`. Assumes nothing.
-use Prim.Native.Nat.{ℕ, ◌+◌, ◌-◌, ◌≤◌}
+-- `chunks::put_parts` meets its contract. Rests on the laws of `Growing` and on `parts_others`. Assumes nothing.
+use Prim.Native.Nat.{ℕ, ◌+◌, ◌<◌}
 use mathlib.Core.Path.{◌≡◌}
-use mathlib.Core.List.{◌++◌}
-use mathlib.Core.Logic.{⊎_elim}
 use native.Mathlib.Omega.{arith}
-use lib.ListN.{length, length-replicate}
+use lib.ListN.{get_or, length-replicate}
 use borrow.Author.Tests.{eq-eqb, ne_eqb}
-use Rattle.blocks.specs.BlockSets.{blocks_of}
-use Rattle.blocks.proofs.Behind.{Growing, growing_start, growing_room, growing_next, growing_pass, growing_end}
-use Rattle.blocks.specs.Places.{block_from}
-use Rattle.chunks.specs.Splitting.{all_parts}
-use Rattle.chunks.proofs.Remaining.{parts_left, parts_start, parts_done, parts_pass, parts_first, parts_others}
-use borrow.Author.Rules.{rules}
+use Rattle.blocks.proofs.Behind.{growing_start, growing_room, growing_next, growing_pass, growing_end}
+use Rattle.blocks.proofs.Between.{length_cells, cell_place, cells_below}
+use Rattle.chunks.proofs.Remaining.{parts_start, parts_done, parts_pass, parts_first, parts_others}
 use Rattle.chunks.proofs.put_parts.Goals as goal
-use Rattle.chunks.proofs.put_parts.Goals.{else-done-c-ne1, then-done-c-ne1}
+use Rattle.chunks.proofs.put_parts.Goals.{After-wide-c, else-done-c-ne1, then-done-c-ne1}
 
-pub loop-i-init : goal.loop-i-init
-loop-i-init c =
-    let a = c.args in (
-      omega arith,
-      length-replicate {A = ℕ} 1024 0,
-      growing_pass (growing_start c.requires.room) _ (parts_start a.cells.now a.slots.now a.rests.now a.bounds 1024),
-    )
+pub loop-cell-init : goal.loop-cell-init
+loop-cell-init c =
+    let set = c.args.set.now in
+    let start : c.args.bounds.first_cell + 0 ≡ c.args.bounds.first_cell = omega arith in
+    (length-replicate {A = ℕ} 1024 0, rw start (growing_pass (growing_start c.requires.room) _ (parts_start set.cells set.slots set.rests c.args.bounds 1024)))
 
-pub offset_bounds-cells-i : goal.offset_bounds-cells-i
-offset_bounds-cells-i c = omega (arith, c.requires.arrays.in_cells.few, c.loop-i-test.true)
+-- the place of the next cell among the set's cells
+place : (c : After-wide-c)
+    → (c.args.bounds.first_cell + c.loop-cell.cell-index < c.args.bounds.end_cell)
+    × (c.wide-c.result ≡ get_or c.args.set.now.cells (c.args.bounds.first_cell + c.loop-cell.cell-index) 0)
+place c =
+    cell_place c.args.set.now.cells c.args.bounds.first_cell c.args.bounds.end_cell _ _ _ c.cells_of-cells.ensures c.loop-cell-test.true c.wide-c.ensures
 
-pub bounds-cells-i : goal.bounds-cells-i
-bounds-cells-i c = omega (arith, c.requires.arrays.in_cells.few, c.loop-i-test.true)
+on_board : (c : After-wide-c) → c.wide-c.result < 1024
+on_board c = rw (place c).1 (c.requires.stands.0.in_cells.below _ (place c).0)
 
 pub bounds-done-c : goal.bounds-done-c
-bounds-done-c c = rw c.wide-c.ensures (c.requires.arrays.in_cells.below c.loop-i.i c.loop-i-test.true)
+bounds-done-c c = on_board (goal.at.bounds-done-c c).After-wide-c
 
-pub connected_with-marks-requires : goal.connected_with-marks-requires
-connected_with-marks-requires c = record { slots = c.requires.arrays.in_slots; c_bound = rw c.wide-c.ensures (c.requires.arrays.in_cells.below c.loop-i.i c.loop-i-test.true) }
+pub connected_with-marks-requires-clause-c_bound : goal.connected_with-marks-requires-clause-c_bound
+connected_with-marks-requires-clause-c_bound c = on_board (goal.at.connected_with-marks-requires-clause-c_bound c).After-wide-c
 
-pub put_part-t-requires : goal.put_part-t-requires
-put_part-t-requires c =
-    let loop = c.loop-i in record {
-      arrays = c.requires.arrays;
-      room = growing_room loop.invariant.2 c.requires.room.fits _ _
-          (parts_first c.args.cells.now c.args.slots.now c.args.rests.now c.args.bounds loop.done loop.i _ c.loop-i-test.true c.wide-c.ensures (ne_eqb _ _ c.if-done-c-ne1.true) _ (c.connected_with-marks.ensures c.args.rests.now));
-    }
+pub put_part-out-requires-clause-room : goal.put_part-out-requires-clause-room
+put_part-out-requires-clause-room c =
+    let loop = c.loop-cell in
+    let set = c.args.set.now in
+    let at = place (goal.at.put_part-out-requires-clause-room c).After-wide-c in
+    growing_room loop.invariant.1 c.requires.room.fits _ _
+    (parts_first set.cells set.slots set.rests c.args.bounds loop.done _ _ at.0 at.1 (ne_eqb _ _ c.if-done-c-ne1.true) _ c.connected_with-marks.ensures)
 
-pub add_done-requires : goal.add_done-requires
-add_done-requires c = record { cells = c.requires.arrays.in_cells; done_len = c.loop-i.invariant.1 }
+pub add_done-requires-clause-below : goal.add_done-requires-clause-below
+add_done-requires-clause-below c =
+    rw c.cells_of-cells.ensures (cells_below c.args.set.now.cells c.args.bounds.first_cell c.args.bounds.end_cell c.requires.stands.0.in_cells)
 
-pub loop-i-preserved : goal.loop-i-preserved
-loop-i-preserved c =
-    let loop = c.loop-i in
-    let test = c.loop-i-test.true in
+pub loop-cell-preserved : goal.loop-cell-preserved
+loop-cell-preserved c =
+    let loop = c.loop-cell in
+    let set = c.args.set.now in
+    let bounds = c.args.bounds in
+    let at = place (goal.at.loop-cell-preserved c).After-wide-c in
+    let next : bounds.first_cell + (loop.cell-index + 1) ≡ bounds.first_cell + loop.cell-index + 1 = omega arith in
     elim c.if-done-c-ne1.branch [
-      | then-done-c-ne1 w ↦ rw (w.t-is, w.done-is) (
-        omega arith,
+      | then-done-c-ne1 w ↦ rw (w.out-is, w.done-is, next) (
         w.add_done.ensures.done_len_2,
-        growing_next loop.invariant.2 c.requires.room.fits _ _
-            (parts_others c.args.cells.now c.args.slots.now c.args.rests.now c.args.bounds loop.done loop.i _ test c.wide-c.ensures (ne_eqb _ _ w.if-done-c-ne1.true) _ (w.connected_with-marks.ensures c.args.rests.now) w.add_done.new.done loop.invariant.0 w.add_done.ensures.by_index)
-            _ w.put_part-t.ensures,
+        growing_next loop.invariant.1 c.requires.room.fits _ _
+            (parts_others set.cells set.slots set.rests bounds loop.done _ _ at.0 at.1 (ne_eqb _ _ w.if-done-c-ne1.true) _ w.connected_with-marks.ensures w.add_done.new.done (omega arith)
+            (rw c.cells_of-cells.ensures at w.add_done.ensures.by_index))
+            _ w.put_part-out.ensures,
       )
-      | else-done-c-ne1 w ↦ rw (w.t-is, w.done-is)
-          (omega arith, loop.invariant.1, growing_pass loop.invariant.2 _ (parts_pass c.args.cells.now c.args.slots.now c.args.rests.now c.args.bounds loop.done loop.i _ test c.wide-c.ensures (eq-eqb _ _ w.if-done-c-ne1.false)))
+      | else-done-c-ne1 w ↦ rw (w.out-is, w.done-is, next)
+          (loop.invariant.0, growing_pass loop.invariant.1 _ (parts_pass set.cells set.slots set.rests bounds loop.done _ _ at.0 at.1 (eq-eqb _ _ w.if-done-c-ne1.false)))
     ]
 
 pub returns : goal.returns
 returns c =
-    let loop = c.loop-i in
-    growing_end loop.invariant.2 (parts_done c.args.cells.now c.args.slots.now c.args.rests.now c.args.bounds loop.done loop.i c.loop-i-test.false)
+    let loop = c.loop-cell in
+    let set = c.args.set.now in
+    let bounds = c.args.bounds in
+    let long = length_cells set.cells bounds.first_cell bounds.end_cell in
+    let all = rw c.cells_of-cells.ensures at c.loop-cell-test.false in
+    growing_end loop.invariant.1 (parts_done set.cells set.slots set.rests bounds loop.done (bounds.first_cell + loop.cell-index) (omega arith))

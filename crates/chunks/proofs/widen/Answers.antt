@@ -1,64 +1,57 @@
--- `chunks::widen` meets its contract. The loop's invariant, for each list of which the marks were those at the start: the marks are those of a list at which
--- the equations from place e on are still to look, and without a new mark it is the list at the start. The measure is what is left. Assumes nothing.
-use Prim.Native.Nat.{ℕ, ◌-◌}
-use mathlib.Core.Path.{◌≡◌, sym, ap, ◌∙◌}
+-- `chunks::widen` meets its contract. The loop's invariant is told beside it. Assumes nothing.
+use mathlib.Core.Path.{sym, ap, ◌∙◌}
 use mathlib.Core.List.{List}
-use mathlib.Core.Logic.{⊎_elim}
-use lib.ListN.{length}
-use Rattle.blocks.specs.Blocks.{BlockEquation}
-use Rattle.chunks.specs.Chunks.{widened}
-use Rattle.blocks.proofs.Between.{equations_none, listed_on_board}
-use Rattle.blocks.specs.Places.{Marks, equations_from}
-use Rattle.chunks.proofs.Looked.{look_pass, look_add}
-use Rattle.chunks.proofs.Marking.{Towards, towards_start, towards_end, towards_pass, towards_new, towards_changed}
 use borrow.Author.Rules.{rules}
+use Rattle.blocks.specs.Blocks.{BlockEquation}
+use Rattle.blocks.proofs.Between.{equations_none, listed_on_board}
+use Rattle.chunks.specs.Chunks.{widened}
+use Rattle.chunks.proofs.Looked.{look_pass, look_add}
+use Rattle.chunks.proofs.Marking.{towards_start, towards_end, towards_pass, towards_new, towards_changed}
 use Rattle.chunks.proofs.widen.Goals as goal
 use Rattle.chunks.proofs.widen.Goals.{else-meets_marks, then-meets_marks+else-mark_all, then-meets_marks+then-mark_all}
 
 pub loop-e-init : goal.loop-e-init
-loop-e-init c = (search rules, λ rests l h. towards_start h)
+loop-e-init c = (search rules, λ l h. towards_start h)
 
 pub meets_marks-requires : goal.meets_marks-requires
-meets_marks-requires c = listed_on_board _ c.args.slots.now _ c.slots_at-list.ensures c.args.end c.requires.slots c.loop-e-test.true
+meets_marks-requires c = listed_on_board _ c.args.set.now.slots _ c.slots_at-list.ensures c.args.bounds.end_equation c.requires.slots c.loop-e-test.true
 
 pub mark_all-requires : goal.mark_all-requires
 mark_all-requires c =
     record {
       marks_len = c.loop-e.invariant.0;
-      on_board = listed_on_board _ c.args.slots.now _ c.slots_at-list.ensures c.args.end c.requires.slots
-          c.loop-e-test.true;
+      on_board = listed_on_board _ c.args.set.now.slots _ c.slots_at-list.ensures c.args.bounds.end_equation c.requires.slots c.loop-e-test.true;
     }
 
 pub loop-e-preserved : goal.loop-e-preserved
 loop-e-preserved c =
     let loop = c.loop-e in
+    let set = c.args.set.now in
+    let end = c.args.bounds.end_equation in
     let test = c.loop-e-test.true in
     let is = c.slots_at-list.ensures in
     let met = sym c.meets_marks.ensures in
     elim c.if-meets_marks.branch [
       | then-meets_marks+then-mark_all w ↦ rw (w.marks-is, w.new-is) (
         w.mark_all.ensures.whole,
-        λ rests l h.
-            towards_new (loop.invariant.1 rests l h) _ (look_add _ c.args.slots.now loop.e is rests loop.marks c.args.end test (met ∙ w.if-meets_marks.true)) w.mark_all.ensures.marks,
+        λ l h. towards_new (loop.invariant.1 l h) _ (look_add _ set.slots loop.e is set.rests loop.marks end test (met ∙ w.if-meets_marks.true)) w.mark_all.ensures.marks,
       )
       | then-meets_marks+else-mark_all w ↦ rw (w.marks-is, w.new-is) (
         w.mark_all.ensures.whole,
-        λ rests l h.
-            towards_changed (loop.invariant.1 rests l h) (look_add _ c.args.slots.now loop.e is rests loop.marks c.args.end test (met ∙ w.if-meets_marks.true)) w.mark_all.ensures w.if-mark_all.false,
+        λ l h. towards_changed (loop.invariant.1 l h) (look_add _ set.slots loop.e is set.rests loop.marks end test (met ∙ w.if-meets_marks.true)) w.mark_all.ensures w.if-mark_all.false,
       )
       | else-meets_marks w ↦ rw (w.marks-is, w.new-is) (
         loop.invariant.0,
-        λ rests l h. towards_pass (loop.invariant.1 rests l h) (look_pass _ c.args.slots.now loop.e is rests loop.marks c.args.end test (met ∙ w.if-meets_marks.false)),
+        λ l h. towards_pass (loop.invariant.1 l h) (look_pass _ set.slots loop.e is set.rests loop.marks end test (met ∙ w.if-meets_marks.false)),
       )
     ]
 
 pub returns : goal.returns
 returns c =
     let loop = c.loop-e in
-    λ rests.
-    let none = equations_none c.args.slots.now rests loop.e c.args.end c.loop-e-test.false in
+    let none = equations_none c.args.set.now.slots c.args.set.now.rests loop.e c.args.bounds.end_equation c.loop-e-test.false in
     record {
       whole = loop.invariant.0;
-      marks = λ l h. (towards_end (loop.invariant.1 rests l h) (λ x. ap (λ (es : List BlockEquation). widened es x) none)).0;
-      same = λ l h. (towards_end (loop.invariant.1 rests l h) (λ x. ap (λ (es : List BlockEquation). widened es x) none)).1;
+      marks = λ l h. (towards_end (loop.invariant.1 l h) (λ x. ap (λ (es : List BlockEquation). widened es x) none)).0;
+      same = λ l h. (towards_end (loop.invariant.1 l h) (λ x. ap (λ (es : List BlockEquation). widened es x) none)).1;
     }
