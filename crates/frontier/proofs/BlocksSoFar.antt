@@ -129,16 +129,7 @@ module _ (edgeless : Bool) {rows columns : ℕ} {p beside list : List ℕ} {len 
   read_block_sources : (k : ℕ) → block_sources (slots_meet beside) k (sources near p) ≡ block_sources (shares near p) k (sources near p)
   read_block_sources k = block_sources_ext is_read (slots_meet beside) (shares near p) (read_meets edgeless board read) k (sources near p) (all_read edgeless board read)
 
-  pub none_so_far : BlocksSoFar edgeless rows columns p beside list len (replicate 1024 0)
-      record {
-        cells = replicate 1024 0;
-        cell_ends = replicate 1024 0;
-        slots = replicate 8192 65535;
-        rests = replicate 1024 0;
-        equation_ends = replicate 1024 0;
-        blocks = 0;
-      }
-      0 0
+  pub none_so_far : BlocksSoFar edgeless rows columns p beside list len (replicate 1024 0) (block_set []) 0 0
   unfolding block_set frontier
   none_so_far = record {
     done = [];

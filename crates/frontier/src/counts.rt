@@ -2,31 +2,21 @@
 ghost use Rattle.std.specs.Prelude.{◌≡◌, not, ◌+◌, ◌*◌, ◌≤◌, leb, length};
 ghost use Rattle.lists.specs.Lists.{any};
 ghost use Rattle.grid.specs.Cells.{shows};
-ghost use Rattle.grid.specs.Window.{neighbours, Board, On};
+ghost use Rattle.grid.specs.Window.{neighbours_on, Board, On};
 ghost use Rattle.frontier.specs.Frontier.{inside_cells, known_mines};
 
 use grid::cells::count_showing;
-use grid::window::{neighbours_of, wide};
+use grid::window::{Size, wide};
 
 // Does the cell touch no open one?
-fn touches_no_open(
-    edgeless: bool,
-    rows: usize,
-    columns: usize,
-    position: &[u8],
-    row: usize,
-    column: usize,
-) -> bool
-    requires board { Board position.now rows columns }
-    requires on { On rows columns row column }
-    ensures { result ≡ not (any (λ d. leb (shows position.now d) 8) (neighbours edgeless rows columns (row * columns + column))) }
+fn touches_no_open(size: Size, position: &[u8], row: usize, column: usize) -> bool
+    requires board { Board position.now size.rows size.columns }
+    requires on { On size.rows size.columns row column }
+    ensures { result ≡ not (any (λ d. leb (shows position.now d) 8) (neighbours_on size (row * size.columns + column))) }
 {
-    let near = neighbours_of(edgeless, rows, columns, row, column);
-    let cells = near.cells;
-    let len = near.len;
-    for t in 0..len {
-        let c = wide(cells[t]);
-        if position[c] <= 8 {
+    let near = size.neighbours_of(row, column);
+    for &neighbour in near.as_slice() {
+        if position[wide(neighbour)] <= 8 {
             return false;
         }
     }
@@ -34,16 +24,14 @@ fn touches_no_open(
 }
 
 // inside_cell.
-pub fn inside_cells(edgeless: bool, rows: usize, columns: usize, position: &[u8]) -> usize
-    requires { Board position.now rows columns }
-    ensures { result ≡ inside_cells (neighbours edgeless rows columns) position.now }
+pub fn inside_cells(size: Size, position: &[u8]) -> usize
+    requires { Board position.now size.rows size.columns }
+    ensures { result ≡ inside_cells (neighbours_on size) position.now }
 {
     let mut count = 0;
-    for c in 0..position.len() {
-        if position[c] == 10 {
-            if touches_no_open(edgeless, rows, columns, position, c / columns, c % columns) {
-                count += 1;
-            }
+    for (c, &shown) in position.iter().enumerate() {
+        if shown == 10 && touches_no_open(size, position, c / size.columns, c % size.columns) {
+            count += 1;
         }
     }
     count

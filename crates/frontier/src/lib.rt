@@ -6,17 +6,17 @@
 pub mod counts;
 
 ghost use Rattle.std.specs.Prelude.{◌≡◌};
-ghost use Rattle.grid.specs.Window.{neighbours, Board};
+ghost use Rattle.grid.specs.Window.{neighbours_on, Board};
 ghost use Rattle.blocks.specs.BlockSets.{block_set};
 ghost use Rattle.frontier.specs.Frontier.{frontier};
 ghost use Rattle.frontier.specs.Answer.{refresh_matrixs};
 
-use blocks::BlockSet;
+use blocks::{BlockSet, empty_set};
 use filling::{fill_cells, fill_equations};
 use grid::window::Size;
 use growth::{drop_first, grow_block};
 use refusals::{Refusal, test_position};
-use sources::read_sources;
+use sources::{SourceList, Sources};
 
 // What refresh_matrixs answers: the blocks, the closed cells that touch no open one, and the known mines.
 #[derive(Drop)]
@@ -32,49 +32,51 @@ pub fn refresh_matrixs(size: Size, position: &[u8]) -> Result<FrontierAnswer, Re
 {
     test_position(size, position)?;
     Ok(FrontierAnswer {
-        blocks: read_blocks(size.edgeless, size.rows, size.columns, position),
-        inside_cell: counts::inside_cells(size.edgeless, size.rows, size.columns, position),
+        blocks: read_blocks(size, position),
+        inside_cell: counts::inside_cells(size, position),
         is_minenum: counts::known_mines(position),
     })
 }
 
 // The blocks of a position, of any size that the tests accept.
-pub fn read_blocks(edgeless: bool, rows: usize, columns: usize, position: &[u8]) -> BlockSet
-    requires { Board position.now rows columns }
-    ensures { result ≡ block_set (frontier (neighbours edgeless rows columns) position.now) }
+pub fn read_blocks(size: Size, position: &[u8]) -> BlockSet
+    requires { Board position.now size.rows size.columns }
+    ensures { result ≡ block_set (frontier (neighbours_on size) position.now) }
 {
-    let mut beside = [65535u16; 8192];
-    let mut left = [0u16; 1024];
-    let mut n = read_sources(edgeless, rows, columns, position, &mut beside, &mut left);
-    let mut found = [0u16; 1024];
-    let mut places = [0u16; 1024];
-    let mut cells = [0u16; 1024];
-    let mut cell_ends = [0u16; 1024];
-    let mut slots = [65535u16; 8192];
-    let mut rests = [0u8; 1024];
-    let mut equation_ends = [0u16; 1024];
+    let mut sources = Sources {
+        beside: [65535; 8192],
+        list: SourceList {
+            cells: [0; 1024],
+            len: 0,
+        },
+    };
+    sources.read(size, position);
+    let Sources { beside, list: left } = &mut sources;
+    let mut found = SourceList {
+        cells: [0; 1024],
+        len: 0,
+    };
+    let mut places = [0; 1024];
+    let mut set = empty_set();
     let mut k = 0;
     let mut e = 0;
-    let mut blocks = 0;
-    while 0 < n {
-        let sizes = grow_block(edgeless, columns, &beside, &mut left, n, &mut found);
-        let len = sizes.found;
-        k = fill_cells(&beside, &found, len, &mut places, &mut cells, k);
-        e = fill_equations(
-            edgeless, rows, columns, position, &beside, &places, &found, len, &mut slots,
-            &mut rests, e,
+    while 0 < left.len {
+        grow_block(size, beside, left, &mut found);
+        let part = found.as_slice();
+        k = fill_cells(beside, part, &mut places, &mut set.cells, k);
+        fill_equations(
+            size,
+            position,
+            beside,
+            &places,
+            part,
+            &mut set.slots,
+            &mut set.rests,
+            e,
         );
-        cell_ends[blocks] = k as u16;
-        equation_ends[blocks] = e as u16;
-        blocks += 1;
-        n = drop_first(&mut left, sizes.left);
+        e += part.len();
+        set.end_block(k, e);
+        drop_first(left);
     }
-    BlockSet {
-        cells,
-        cell_ends,
-        slots,
-        rests,
-        equation_ends,
-        blocks,
-    }
+    set
 }

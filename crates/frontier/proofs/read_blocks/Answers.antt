@@ -1,89 +1,101 @@
--- `read_blocks` meets its contract. The loop's invariant: the arrays hold the blocks done, which with the blocks of the first n of `left` are the whole
--- frontier, and `places` has no cell for the next block yet (`BlocksSoFar`). The measure is n, the sources left: a block has at least one. A turn is one
--- block more, for which there is room, since what is written is a beginning of the frontier. Rests on the laws of `BlocksSoFar`. Assumes nothing.
+-- `read_blocks` meets its contract. The loop's invariant: the set holds the blocks done, which with the blocks of the sources left are the whole frontier, and
+-- `places` has no cell for the next block yet (`BlocksSoFar`). The measure is the sources left: a block has at least one. A turn is one block more, for which
+-- there is room, since what is written is a beginning of the frontier. Rests on the laws of `BlocksSoFar`. Assumes nothing.
 use mathlib.Core.Path.{◌≡◌, refl}
+use mathlib.Core.Bool.{true}
 use native.Mathlib.Omega.{arith}
+use lib.Dec.{ltb}
 use lib.ListN.{length}
+use lib.Seq.{length-take-le}
+use Rattle.lists.specs.Lists.{all}
 use Rattle.sources.specs.Reading.{Slots}
 use Rattle.sources.proofs.SourceLaws.{read_none}
 use Rattle.sources.proofs.ReadSlots.{read_slots}
-use Rattle.frontier.proofs.BlocksSoFar.{BlocksSoFar, NextFits, none_so_far, next_fits, one_more, all_so_far}
+use Rattle.frontier.proofs.BlocksSoFar.{NextFits, none_so_far, next_fits, one_more, all_so_far}
 use Rattle.frontier.proofs.read_blocks.Goals as goal
-use Rattle.frontier.proofs.read_blocks.Goals.{After-grow_block-sizes, After-read_sources-n}
+use Rattle.frontier.proofs.read_blocks.Goals.{After-grow_block, After-as_slice-part, After-read}
 
 -- what the slots of the sources tell
-slots : (c : After-read_sources-n) → Slots c.args.edgeless c.args.columns c.read_sources-n.new.beside
-slots c = read_slots _ c.requires c.read_sources-n.ensures
+slots : (c : After-read) → Slots c.args.size.edgeless c.args.size.columns c.read.new.self.beside
+slots c = read_slots _ c.requires c.read.ensures
 
 -- there is room for the block that has grown
-fits : (c : After-grow_block-sizes)
+fits : (c : After-grow_block)
     → (let a = c.args in
-    let beside = c.read_sources-n.new.beside in
-    let l = c.loop-n in
-    NextFits a.rows a.columns a.position.now beside c.grow_block-sizes.new.found c.grow_block-sizes.result.found
-    l.slots l.rests l.k l.e l.blocks)
+    let l = c.loop-left in
+    let found = c.grow_block.new.found in
+    NextFits a.size.rows a.size.columns a.position.now c.read.new.self.beside found.cells found.len l.set.slots l.set.rests l.k l.e l.set.blocks)
 fits c =
-    let told = c.grow_block-sizes.ensures in
-    next_fits _ c.requires c.read_sources-n.ensures c.loop-n.invariant.0 c.loop-n-test.true
+    let told = c.grow_block.ensures in
+    next_fits _ c.requires c.read.ensures c.loop-left.invariant.0 c.loop-left-test.true
     told.cells_2.1 told.cells_2.0 told.found_after told.left_after
 
+-- how many sources it has
+length_part : (c : After-as_slice-part) → length c.as_slice-part.result.now ≡ c.grow_block.new.found.len
+length_part c =
+    let cells = c.grow_block.ensures.cells_2.1 in
+    rw c.as_slice-part.ensures (length-take-le c.grow_block.new.found.len c.grow_block.new.found.cells (omega (arith, cells.long, cells.few)))
+
+on_board : (c : After-as_slice-part) → all (λ d. ltb d 1024) c.as_slice-part.result.now ≡ true
+on_board c = rw c.as_slice-part.ensures c.grow_block.ensures.cells_2.1.on_board
+
 -- ---- the needs
-pub read_sources-n-requires : goal.read_sources-n-requires
-read_sources-n-requires c = record { board = c.requires; read = read_none _ _ _ refl }
+pub read-requires-clause-read : goal.read-requires-clause-read
+read-requires-clause-read c = read_none _ _ _ refl
 
-pub loop-n-init : goal.loop-n-init
-loop-n-init c = (none_so_far _ c.requires c.read_sources-n.ensures, refl)
+pub loop-left-init : goal.loop-left-init
+loop-left-init c = rw c.empty_set-set.ensures (none_so_far _ c.requires c.read.ensures, refl)
 
-pub grow_block-sizes-requires : goal.grow_block-sizes-requires
-grow_block-sizes-requires c = record { slots = slots (goal.at.grow_block-sizes-requires c).After-read_sources-n; cells = (c.loop-n.invariant.0.left_cells_lem, c.loop-n-test.true); found_len = c.loop-n.invariant.1 }
+pub grow_block-requires-clause-slots : goal.grow_block-requires-clause-slots
+grow_block-requires-clause-slots c = slots (goal.at.grow_block-requires-clause-slots c).After-read
 
-pub fill_cells-k-requires : goal.fill_cells-k-requires
-fill_cells-k-requires c = record { board_slots = ((slots (goal.at.fill_cells-k-requires c).After-read_sources-n).held, c.grow_block-sizes.ensures.cells_2.1); placed = c.loop-n.invariant.0.placed; found_bound = (fits (goal.at.fill_cells-k-requires c).After-grow_block-sizes).cells_room }
+pub fill_cells-k-requires-clause-board_slots : goal.fill_cells-k-requires-clause-board_slots
+fill_cells-k-requires-clause-board_slots c = ((slots (goal.at.fill_cells-k-requires-clause-board_slots c).After-read).held, on_board (goal.at.fill_cells-k-requires-clause-board_slots c).After-as_slice-part)
 
-pub fill_equations-e-requires : goal.fill_equations-e-requires
-fill_equations-e-requires c =
-    let room = fits (goal.at.fill_equations-e-requires c).After-grow_block-sizes in
-    let long = c.fill_cells-k.ensures.placed_2.long in record { board = c.requires; board_slots = ((slots (goal.at.fill_equations-e-requires c).After-read_sources-n).held, c.grow_block-sizes.ensures.cells_2.1); places_len = (long, room.slots_long, room.rests_long, room.equations_room); found_value = room.are_open }
+pub fill_cells-k-requires-clause-found_bound : goal.fill_cells-k-requires-clause-found_bound
+fill_cells-k-requires-clause-found_bound c = rw c.as_slice-part.ensures (fits (goal.at.fill_cells-k-requires-clause-found_bound c).After-grow_block).cells_room
 
-pub overflow_cast-cell_ends : goal.overflow_cast-cell_ends
-overflow_cast-cell_ends c = omega (arith, c.fill_cells-k.ensures.placed_2.few)
+pub fill_equations-requires-clause-board_slots : goal.fill_equations-requires-clause-board_slots
+fill_equations-requires-clause-board_slots c = ((slots (goal.at.fill_equations-requires-clause-board_slots c).After-read).held, on_board (goal.at.fill_equations-requires-clause-board_slots c).After-as_slice-part)
 
-pub offset_bounds-cell_ends-blocks : goal.offset_bounds-cell_ends-blocks
-offset_bounds-cell_ends-blocks c = omega (arith, (fits (goal.at.offset_bounds-cell_ends-blocks c).After-grow_block-sizes).block_room)
+pub fill_equations-requires-clause-places_len : goal.fill_equations-requires-clause-places_len
+fill_equations-requires-clause-places_len c =
+    let room = fits (goal.at.fill_equations-requires-clause-places_len c).After-grow_block in
+    let counted = length_part (goal.at.fill_equations-requires-clause-places_len c).After-as_slice-part in
+    (c.fill_cells-k.ensures.placed_2.long, room.slots_long, room.rests_long, rw counted room.equations_room)
 
-pub bounds-cell_ends-blocks : goal.bounds-cell_ends-blocks
-bounds-cell_ends-blocks c = (fits (goal.at.bounds-cell_ends-blocks c).After-grow_block-sizes).block_room
+pub fill_equations-requires-clause-found_value : goal.fill_equations-requires-clause-found_value
+fill_equations-requires-clause-found_value c = rw c.as_slice-part.ensures (fits (goal.at.fill_equations-requires-clause-found_value c).After-grow_block).are_open
 
-pub overflow_cast-equation_ends : goal.overflow_cast-equation_ends
-overflow_cast-equation_ends c = omega (arith, (fits (goal.at.overflow_cast-equation_ends c).After-grow_block-sizes).equations_room, c.fill_equations-e.ensures.value)
+pub overflow_add-e : goal.overflow_add-e
+overflow_add-e c =
+    let counted = length_part (goal.at.overflow_add-e c).After-as_slice-part in
+    omega (arith, counted, (fits (goal.at.overflow_add-e c).After-grow_block).equations_room)
 
-pub offset_bounds-equation_ends-blocks : goal.offset_bounds-equation_ends-blocks
-offset_bounds-equation_ends-blocks c = omega (arith, (fits (goal.at.offset_bounds-equation_ends-blocks c).After-grow_block-sizes).block_room)
+pub end_block-requires : goal.end_block-requires
+end_block-requires c =
+    let room = fits (goal.at.end_block-requires c).After-grow_block in
+    let counted = length_part (goal.at.end_block-requires c).After-as_slice-part in
+    (room.block_room, c.fill_cells-k.ensures.placed_2.few, rw counted room.equations_room)
 
-pub bounds-equation_ends-blocks : goal.bounds-equation_ends-blocks
-bounds-equation_ends-blocks c = (fits (goal.at.bounds-equation_ends-blocks c).After-grow_block-sizes).block_room
+pub loop-left-smaller : goal.loop-left-smaller
+loop-left-smaller c = omega (arith, (fits (goal.at.loop-left-smaller c).After-grow_block).some, c.drop_first.ensures.cells.1, c.grow_block.ensures.le_left.1)
 
-pub overflow_add-blocks : goal.overflow_add-blocks
-overflow_add-blocks c = omega (arith, (fits (goal.at.overflow_add-blocks c).After-grow_block-sizes).block_room)
-
-pub drop_first-n-requires : goal.drop_first-n-requires
-drop_first-n-requires c = (c.grow_block-sizes.ensures.cells_2.0, c.grow_block-sizes.ensures.le_left.0)
-
-pub loop-n-smaller : goal.loop-n-smaller
-loop-n-smaller c = omega (arith, (fits (goal.at.loop-n-smaller c).After-grow_block-sizes).some, c.drop_first-n.ensures.cells.1, c.grow_block-sizes.ensures.le_left.1)
-
-pub loop-n-preserved : goal.loop-n-preserved
-loop-n-preserved c =
-    let told = c.grow_block-sizes.ensures in
+pub loop-left-preserved : goal.loop-left-preserved
+loop-left-preserved c =
+    let told = c.grow_block.ensures in
     let filled = c.fill_cells-k.ensures in
-    let written = c.fill_equations-e.ensures in
-    let dropped = c.drop_first-n.ensures in (
-      one_more _ c.requires c.read_sources-n.ensures c.loop-n.invariant.0 c.loop-n-test.true
+    let written = c.fill_equations.ensures in
+    let dropped = c.drop_first.ensures in
+    let counted = length_part (goal.at.loop-left-preserved c).After-as_slice-part in
+    let part = c.as_slice-part.ensures in
+    rw (c.end_block.ensures, counted) (
+      one_more _ c.requires c.read.ensures c.loop-left.invariant.0 c.loop-left-test.true
           told.cells_2.1 told.cells_2.0 told.found_after told.left_after
-          filled.placed_2 filled.cells_unchanged filled.cells_after written.value written.slots_after written.rests_after
+          filled.placed_2 filled.cells_unchanged (rw part at filled.cells_after) refl (rw part at written.slots_after) (rw part at written.rests_after)
           dropped.cells.0 dropped.left_after told.le_left.1 dropped.cells.1,
       told.cells_2.1.long,
     )
 
 pub returns : goal.returns
-returns c = all_so_far _ c.requires c.read_sources-n.ensures c.loop-n.invariant.0 c.loop-n-test.false
+returns c = all_so_far _ c.requires c.read.ensures c.loop-left.invariant.0 c.loop-left-test.false

@@ -1,5 +1,4 @@
 -- `known_mines` meets its contract. Assumes nothing.
-use borrow.Author.Rules.{rules}
 use Rattle.frontier.specs.Frontier.{known_mines}
 use Rattle.frontier.proofs.counts.known_mines.Goals as goal
 

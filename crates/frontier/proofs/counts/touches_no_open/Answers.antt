@@ -1,69 +1,27 @@
--- `touches_no_open` meets its contract. The loop's invariant: a neighbour from slot t on is open exactly where any neighbour is. The measure is what is
--- left of the array. On the board the code's reading of a cell is what the position shows there. Rests on `near_more`. Assumes nothing.
-use mathlib.Core.List.{List, ◌∷◌}
-use Prim.Native.Nat.{ℕ, ◌+◌, ◌-◌, ◌*◌, ◌<◌}
-use mathlib.Core.Path.{◌≡◌, refl, ap}
+-- `touches_no_open` meets its contract. The loop's invariant: a neighbour from here on is open exactly where any neighbour is. On the board the code's reading
+-- of a cell is what the position shows there. Rests on the laws of the neighbours. Assumes nothing.
+use mathlib.Core.Path.{◌∙◌, ap}
+use Prim.Native.Nat.{◌<◌}
 use mathlib.Core.Bool.{not}
 use native.Mathlib.Omega.{arith}
-use lib.ListN.{length, drop}
-use borrow.Author.Rules.{rules}
-use Rattle.lists.specs.Lists.{any}
-use Rattle.grid.specs.Window.{neighbours}
-use Rattle.grid.proofs.Listed.{near_few, near_on, near_more, near_none}
-use Rattle.frontier.proofs.CountTurns.{is_open, read_open, read_not_open}
+use lib.ListN.{length}
+use Rattle.lists.proofs.Arrays.{drop_more}
+use Rattle.grid.proofs.Listed.{near_items, near_item_on}
+use Rattle.frontier.proofs.CountTurns.{read_open}
 use Rattle.frontier.proofs.counts.touches_no_open.Goals as goal
-use Rattle.frontier.proofs.counts.touches_no_open.Goals.{After-shared_slice_known-in-loop-t-1, In-loop-t-unread}
+use Rattle.frontier.proofs.counts.touches_no_open.Goals.{After-wide}
 
-pub loop-t-init : goal.loop-t-init
-loop-t-init c = refl
-
--- the loop is inside the array
-inside : (c : In-loop-t-unread) → c.loop-t.t < 8
-inside c =
-    let before = c.loop-t-test.true in
-    omega (arith, near_few _ _ _ _ _ _ c.requires.on c.neighbours_of-near.ensures)
-
-pub offset_bounds-cells-t : goal.offset_bounds-cells-t
-offset_bounds-cells-t c = omega (arith, inside c)
-
-pub bounds-cells-t : goal.bounds-cells-t
-bounds-cells-t c = inside c
-
-pub bounds-position-c : goal.bounds-position-c
-bounds-position-c c =
-    let near = c.neighbours_of-near.ensures in
-    let pre = c.requires in
-    omega (arith, near_on _ _ _ _ _ _ pre.on near _ _ c.loop-t-test.true c.wide-c.ensures, pre.board.whole)
-
--- the neighbour is on the board
-on_board : (c : After-shared_slice_known-in-loop-t-1) → c.wide-c.result < length c.args.position.now
+on_board : (c : After-wide) → c.wide.result < length c.args.position.now
 on_board c =
-    let near = c.neighbours_of-near.ensures in
-    let pre = c.requires in
-    omega (arith, near_on _ _ _ _ _ _ pre.on near _ _ c.loop-t-test.true c.wide-c.ensures, pre.board.whole)
+    omega (arith, near_item_on _ _ _ _ _ _ c.requires.on c.neighbours_of-near.ensures _ _ _ c.as_slice-neighbour-items.ensures c.loop-neighbour-test.true c.wide.ensures, c.requires.board.whole)
 
--- the position, and the neighbours of the cell
-abbrev shown : After-shared_slice_known-in-loop-t-1 → List ℕ
-shown c = c.args.position.now
+pub bounds-position-wide : goal.bounds-position-wide
+bounds-position-wide c = on_board (goal.at.bounds-position-wide c).After-wide
 
-abbrev beside : After-shared_slice_known-in-loop-t-1 → List ℕ
-beside c = let a = c.args in neighbours a.edgeless a.rows a.columns (a.row * a.columns + a.column)
-
--- what is left begins with the cell that the slot has
-next : (c : After-shared_slice_known-in-loop-t-1)
-    → any (is_open (shown c)) (c.wide-c.result ∷ drop (c.loop-t.t + 1) (beside c)) ≡ any (is_open (shown c)) (beside c)
-next c =
-    let on = c.requires.on in
-    let near = c.neighbours_of-near.ensures in
-    rw (near_more _ _ _ _ _ _ on near _ _ c.loop-t-test.true c.wide-c.ensures) at c.loop-t.invariant
-
-pub returns-then-position-c-le8 : goal.returns-then-position-c-le8
-returns-then-position-c-le8 c = ap not (rw (read_open (shown (goal.at.returns-then-position-c-le8 c).After-shared_slice_known-in-loop-t-1) _ (on_board (goal.at.returns-then-position-c-le8 c).After-shared_slice_known-in-loop-t-1) c.if-position-c-le8.true) at (next (goal.at.returns-then-position-c-le8 c).After-shared_slice_known-in-loop-t-1))
-
-pub loop-t-preserved : goal.loop-t-preserved
-loop-t-preserved c = rw (read_not_open (shown (goal.at.loop-t-preserved c).After-shared_slice_known-in-loop-t-1) _ (on_board (goal.at.loop-t-preserved c).After-shared_slice_known-in-loop-t-1) c.if-position-c-le8.false) at (next (goal.at.loop-t-preserved c).After-shared_slice_known-in-loop-t-1)
-
-pub returns : goal.returns
-returns c =
-    let none = near_none _ _ _ _ _ _ c.requires.on c.neighbours_of-near.ensures _ c.loop-t-test.false in
-    ap not (rw none at c.loop-t.invariant)
+pub returns-then-position-wide-le8 : goal.returns-then-position-wide-le8
+returns-then-position-wide-le8 c =
+    let l = c.loop-neighbour in
+    let open_there = read_open c.args.position.now c.wide.result (on_board (goal.at.returns-then-position-wide-le8 c).After-wide) c.if-position-wide-le8.true in
+    let next = drop_more c.as_slice-neighbour-items.result.now l.neighbour-index 0 c.loop-neighbour-test.true in
+    let found = rw (next, ← c.wide.ensures, open_there) at l.invariant in
+    ap not (rw (c.as_slice-neighbour-items.ensures ∙ near_items _ _ _ _ _ _ c.requires.on c.neighbours_of-near.ensures) at found)
