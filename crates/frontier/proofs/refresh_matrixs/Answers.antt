@@ -1,6 +1,6 @@
 -- `refresh_matrixs` meets its contract: a refusal by the tests is the call's, and an acceptance tells that the position is a board of at most 1,024 cells. Rests on
 -- the contracts of the calls and on the facts of an accepted position. Assumes nothing.
-use mathlib.Core.Path.{◌≡◌, sym}
+use mathlib.Core.Path.{sym}
 use native.Mathlib.Omega.{arith}
 use Rattle.std.proofs.lemmas.Result.{err_from_is_err_and}
 use Rattle.grid.specs.Window.{Board}
