@@ -4,12 +4,12 @@
 
 ghost use Rattle.std.specs.Prelude.{◌≡◌, true, ◌+◌, ◌-◌, ◌*◌, ◌≤◌, ◌<◌, ltb, length, get_or, set, IfSome, IfNone};
 ghost use Rattle.lists.specs.Lists.{all};
-ghost use Rattle.grid.specs.Window.{neighbours, Board};
+ghost use Rattle.grid.specs.Window.{neighbours_on, Board};
 ghost use Rattle.fitting.specs.Boards.{Accepted};
 ghost use Rattle.fitting.specs.Passes.{open_cells};
 ghost use Rattle.flood.specs.Stack.{held, open_one, open_each, Room};
 
-use grid::window::{neighbours_of, wide};
+use grid::window::{Size, wide};
 
 // The opened cells whose neighbours are still to be looked at: the first `len` of an array.
 #[derive(Drop)]
@@ -70,18 +70,11 @@ fn open_list(board: &[u8], position: &mut [u8], cells: &[u16], stack: &mut Stack
 }
 
 // refresh_board, from the cells of a list.
-pub fn refresh_board(
-    edgeless: bool,
-    rows: usize,
-    columns: usize,
-    board: &[u8],
-    position: &mut [u8],
-    cells: &[u16],
-)
-    requires board { Board board.now rows columns × Board position.old rows columns }
-    requires accepted { Accepted (neighbours edgeless rows columns) board.now }
-    requires on_board { all (λ c. ltb c (rows * columns)) cells.now ≡ true }
-    ensures { position.new ≡ open_cells (neighbours edgeless rows columns) board.now position.old cells.now }
+pub fn refresh_board(size: Size, board: &[u8], position: &mut [u8], cells: &[u16])
+    requires board { Board board.now size.rows size.columns × Board position.old size.rows size.columns }
+    requires accepted { Accepted (neighbours_on size) board.now }
+    requires on_board { all (λ c. ltb c (size.rows * size.columns)) cells.now ≡ true }
+    ensures { position.new ≡ open_cells (neighbours_on size) board.now position.old cells.now }
 {
     let mut stack = Stack {
         cells: [0; 1024],
@@ -91,7 +84,7 @@ pub fn refresh_board(
     while let Some(cell) = stack.pop() {
         let c = wide(cell);
         if board[c] == 0 {
-            let near = neighbours_of(edgeless, rows, columns, c / columns, c % columns);
+            let near = size.neighbours_of(c / size.columns, c % size.columns);
             open_list(board, position, near.as_slice(), &mut stack);
         }
     }

@@ -4,13 +4,14 @@
 
 ghost use Rattle.std.specs.Prelude.{◌≡◌, true, [], ◌*◌, ltb, length};
 ghost use Rattle.lists.specs.Lists.{all};
-ghost use Rattle.grid.specs.Window.{neighbours, Board};
+ghost use Rattle.grid.specs.Window.{neighbours_on, Board};
 ghost use Rattle.fitting.specs.Boards.{Accepted};
 ghost use Rattle.fitting.specs.Passes.{open_cells};
 ghost use Rattle.rounds.specs.Rounds.{rounds_of};
 ghost use Rattle.rounds.specs.GivenRounds.{round_after, round_given};
 
 use flood::refresh_board;
+use grid::window::Size;
 
 // In the place of a round: the cell is closed.
 pub const NO_ROUND: u16 = 65535;
@@ -45,22 +46,20 @@ fn give_round(position: &[u8], opened_in: &mut [u16], round: u16)
 
 // refresh_board in a round: the cells that it opens have this round.
 pub fn open_in_round(
-    edgeless: bool,
-    rows: usize,
-    columns: usize,
+    size: Size,
     board: &[u8],
     position: &mut [u8],
     cells: &[u16],
     opened_in: &mut [u16],
     round: u16,
 )
-    requires board { Board board.now rows columns × Board position.old rows columns }
-    requires accepted { Accepted (neighbours edgeless rows columns) board.now }
-    requires on_board { all (λ c. ltb c (rows * columns)) cells.now ≡ true }
-    requires opened_in_len { length opened_in.old ≡ rows * columns }
-    ensures position_after { position.new ≡ open_cells (neighbours edgeless rows columns) board.now position.old cells.now }
+    requires board { Board board.now size.rows size.columns × Board position.old size.rows size.columns }
+    requires accepted { Accepted (neighbours_on size) board.now }
+    requires on_board { all (λ c. ltb c (size.rows * size.columns)) cells.now ≡ true }
+    requires opened_in_len { length opened_in.old ≡ size.rows * size.columns }
+    ensures position_after { position.new ≡ open_cells (neighbours_on size) board.now position.old cells.now }
     ensures opened_in_after { opened_in.new ≡ round_given round position.new opened_in.old }
 {
-    refresh_board(edgeless, rows, columns, board, position, cells);
+    refresh_board(size, board, position, cells);
     give_round(position, opened_in, round);
 }

@@ -1,24 +1,21 @@
 -- `flood::refresh_board` meets its contract. The loop's invariant: the stack has room for every closed cell, and a flood that has come to where the loop
 -- began has come on to here, with the neighbours of the 0s on the stack still to be opened. When the stack is empty nothing is left to be opened, and that is
 -- the position of `open_cells`. The measure is the cells on the stack and the closed cells, together. Rests on the laws of Reached, Opening and Waiting. Assumes nothing.
-use Prim.Native.Nat.{ℕ, ◌+◌, ◌-◌, ◌*◌, ◌≤◌, ◌<◌}
+use Prim.Native.Nat.{◌-◌, ◌≤◌, ◌<◌}
 use mathlib.Core.Path.{◌≡◌, sym, ◌∙◌}
-use mathlib.Core.List.{List}
 use native.Mathlib.Omega.{arith}
-use lib.ListN.{length, get_or, take}
-use Rattle.grid.specs.Window.{neighbours}
-use Rattle.grid.proofs.Places.{place_on}
+use lib.ListN.{length, get_or}
 use Rattle.grid.proofs.Neighbours.{neighbours_few}
-use Rattle.flood.specs.Stack.{held, open_each, Room}
+use Rattle.flood.specs.Stack.{Room}
 use Rattle.flood.proofs.Reached.{so_far_ends}
 use Rattle.flood.proofs.Opening.{taken_on, room_taken, held_counts}
 use Rattle.flood.proofs.Waiting.{so_far_held, so_far_first, so_far_zero, so_far_number, so_far_last}
-use Rattle.flood.proofs.OnBoard.{room_first, beside_cells, beside_few, beside_on}
+use Rattle.flood.proofs.OnBoard.{room_first, beside_cells, beside_on}
 use Rattle.flood.proofs.refresh_board.Goals as goal
 use Rattle.flood.proofs.refresh_board.Goals.{After-wide-c}
 
 pub open_list-requires : goal.open_list-requires
-open_list-requires c = let board = c.requires.board.0 in record { room = room_first c.args.edgeless c.args.rows c.args.columns _ board c.requires.accepted _ c.requires.board.1; on_board = rw board.whole c.requires.on_board }
+open_list-requires c = let board = c.requires.board.0 in record { room = room_first _ _ _ _ board c.requires.accepted _ c.requires.board.1; on_board = rw board.whole c.requires.on_board }
 
 -- the cell is the last of the stack, and is on the board
 last : (c : After-wide-c) → c.wide-c.result ≡ get_or c.loop-cell.stack.cells (c.loop-cell.stack.len - 1) 0

@@ -1,7 +1,7 @@
 use Prim.Native.Nat.{ℕ, ◌+◌}
 use mathlib.Core.List.{List}
 use lib.ListN.{take}
-use Rattle.grid.specs.Window.{neighbours}
+use Rattle.grid.specs.Window.{neighbours_on}
 use Rattle.fitting.proofs.Steps.{closed}
 use Rattle.flood.specs.Stack.{Room}
 use Rattle.flood.proofs.SoFar.{SoFar}
@@ -11,8 +11,8 @@ use Rattle.flood.proofs.refresh_board.Given as goal
 abbrev pub invariant-loop-cell : goal.invariant-loop-cell
 invariant-loop-cell l =
     Room l.board l.position l.stack.cells l.stack.len
-    × ((p cs : List ℕ) → SoFar (neighbours l.edgeless l.rows l.columns) l.board p cs l.initial.position (waiting (neighbours l.edgeless l.rows l.columns) l.board (take l.initial.stack.len l.initial.stack.cells))
-    → SoFar (neighbours l.edgeless l.rows l.columns) l.board p cs l.position (waiting (neighbours l.edgeless l.rows l.columns) l.board (take l.stack.len l.stack.cells)))
+    × ((p cs : List ℕ) → SoFar (neighbours_on l.size) l.board p cs l.initial.position (waiting (neighbours_on l.size) l.board (take l.initial.stack.len l.initial.stack.cells))
+    → SoFar (neighbours_on l.size) l.board p cs l.position (waiting (neighbours_on l.size) l.board (take l.stack.len l.stack.cells)))
 
 abbrev pub decreases-loop-cell : goal.decreases-loop-cell
 decreases-loop-cell l = l.stack.len + closed l.position
