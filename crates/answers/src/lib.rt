@@ -2,7 +2,7 @@
 // two names, of a plain board and of one that shows its mine total.
 #![tactic(auto)]
 
-ghost use Rattle.text.specs.Text.{Written};
+ghost use Rattle.text.specs.Text.{Written, Wrote};
 ghost use Rattle.answers.specs.Calls.{call_line};
 
 use board_lines::verdicts::verdict_line;
@@ -12,6 +12,7 @@ use frontier_lines::frontier_line;
 use records::BoardMark;
 use rule_lines::deduction_line;
 use table_lines::table_line;
+use text::Text;
 
 // The calls that a line may be put to.
 #[derive(Clone, Copy)]
@@ -27,9 +28,9 @@ pub enum Call {
     Table,
 }
 
-// What a call answers to a line.
-pub fn call_line(call: Call, line: &[u8], out: &mut [u8]) -> usize
-    ensures { Written out.old 0 (call_line call line.now) out.new result }
+// What a call answers to a line, put behind what is written.
+fn put_call(out: &mut Text<'_>, call: Call, line: &[u8])
+    ensures { Wrote out.old out.new (call_line call line.now) }
 {
     match call {
         Call::Frontier => frontier_line(line, out),
@@ -42,4 +43,13 @@ pub fn call_line(call: Call, line: &[u8], out: &mut [u8]) -> usize
         Call::Total => verdict_line(BoardMark::Total, line, out),
         Call::Table => table_line(line, out),
     }
+}
+
+// What a call answers to a line.
+pub fn call_line(call: Call, line: &[u8], out: &mut [u8]) -> usize
+    ensures { Written out.old 0 (call_line call line.now) out.new result }
+{
+    let mut text = Text::new(out);
+    put_call(&mut text, call, line);
+    text.len()
 }

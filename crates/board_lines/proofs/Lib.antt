@@ -1,4 +1,2 @@
--- The laws of the answers of the calls on a board, as text.
-pub mod AnswerWritten
-pub mod PatternWritten
+-- The slices that the verdict is lent for its answer as text.
 pub mod VerdictWritten

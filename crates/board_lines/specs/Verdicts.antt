@@ -8,7 +8,7 @@ use Rattle.verdict.specs.Verdict.{verdict_number, VerdictSeen}
 use Rattle.show.specs.Cells.{cells_text}
 use Rattle.lines.specs.declared.Line.{Line}
 use Rattle.lines.specs.declared.StartLine.{StartLine}
-use Rattle.lines.specs.Lines.{start_line_of, unreadable_text}
+use Rattle.lines.specs.Lines.{start_line_of, answer_text}
 use Rattle.record_lines.specs.Answers.{verdict_text, verdict_by_mark}
 
 -- a word and the numbers of a slice behind a verdict, and nothing behind a refusal
@@ -36,4 +36,4 @@ abbrev pub verdict_on : BoardMark → StartLine → VerdictSeen
 verdict_on mark l = judged_on mark l.board l.start_row l.start_column
 
 unfoldable pub verdict_line : BoardMark → List ℕ → List ℕ
-verdict_line mark line = cond (start_line_of line).board.readable (verdict_seen_text (verdict_on mark (start_line_of line))) unreadable_text
+verdict_line mark line = answer_text (λ l. verdict_seen_text (verdict_on mark l)) (start_line_of line)

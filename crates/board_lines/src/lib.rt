@@ -3,48 +3,40 @@
 
 pub mod verdicts;
 
-ghost use Rattle.text.specs.Text.{Written};
+ghost use Rattle.text.specs.Text.{Wrote};
 ghost use Rattle.board_lines.specs.Patterns.{pattern_line};
 ghost use Rattle.board_lines.specs.Bbbv.{bbbv_line};
 
-use bbbv::{BbbvAnswer, cal_bbbv};
-use grid::window::FLAT;
-use lines::read_line;
-use patterns::{PatternAnswer, unsolvable_structure};
+use bbbv::cal_bbbv;
+use grid::window::Size;
+use lines::{put_unreadable, read_line};
+use patterns::unsolvable_structure;
 use show::put_refused;
-use text::{put_bytes, put_number};
+use text::Text;
 
 // The answer of unsolvable_structure to a line.
-pub fn pattern_line(line: &[u8], out: &mut [u8]) -> usize
-    ensures { Written out.old 0 (pattern_line line.now) out.new result }
+pub fn pattern_line(line: &[u8], out: &mut Text<'_>)
+    ensures { Wrote out.old out.new (pattern_line line.now) }
 {
-    let read = read_line(line);
-    if !read.readable {
-        return put_bytes(out, 0, b"unreadable");
-    }
-    let cells = read.cells;
-    let len = read.len;
-    let answer = unsolvable_structure(read.rows, read.columns, &cells[..len]);
-    match answer {
-        PatternAnswer::Refused(refusal) => put_refused(out, refusal),
-        PatternAnswer::NotFound => put_bytes(out, 0, b"false"),
-        PatternAnswer::Found => put_bytes(out, 0, b"true"),
+    let Some(read) = read_line(line) else {
+        return put_unreadable(out);
+    };
+    match unsolvable_structure(read.rows, read.columns, read.cells()) {
+        Err(refusal) => put_refused(out, refusal),
+        Ok(true) => out.bytes(b"true"),
+        Ok(false) => out.bytes(b"false"),
     }
 }
 
 // The answer of cal_bbbv to a line.
-pub fn bbbv_line(line: &[u8], out: &mut [u8]) -> usize
-    ensures { Written out.old 0 (bbbv_line line.now) out.new result }
+pub fn bbbv_line(line: &[u8], out: &mut Text<'_>)
+    ensures { Wrote out.old out.new (bbbv_line line.now) }
 {
-    let read = read_line(line);
-    if !read.readable {
-        return put_bytes(out, 0, b"unreadable");
-    }
-    let cells = read.cells;
-    let len = read.len;
-    let answer = cal_bbbv(FLAT, read.rows, read.columns, &cells[..len]);
-    match answer {
-        BbbvAnswer::Refused(refusal) => put_refused(out, refusal),
-        BbbvAnswer::Counted(number) => put_number(out, 0, number),
+    let Some(read) = read_line(line) else {
+        return put_unreadable(out);
+    };
+    match cal_bbbv(Size::flat(read.rows, read.columns), read.cells()) {
+        Err(refusal) => put_refused(out, refusal),
+        Ok(number) => out.number(number),
     }
 }

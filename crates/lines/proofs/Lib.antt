@@ -1,5 +1,4 @@
--- The laws of lines of numbers: their words, their first numbers, their cells, and the answer to one.
+-- The laws of lines of numbers: their words, their first numbers, and their cells.
 pub mod Words
 pub mod FirstNumbers
 pub mod CellsSoFar
-pub mod Answered

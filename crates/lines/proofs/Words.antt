@@ -1,7 +1,7 @@
 -- The numbers of a line, word by word. Each number that is read moves the place forward inside the line, so any bound above the bytes left reads all words; so the numbers from a
 -- place on are those of the word there and of the places behind it. Rests on `word_advances` of the crate text. Assumes nothing.
 use mathlib.Core.Path.{◌≡◌, refl, ap, ◌∙◌}
-use mathlib.Core.Bool.{true}
+use Rattle.std.specs.Prelude.{Some, None}
 use mathlib.Core.List.{List, []}
 use Prim.Native.Nat.{ℕ, zero, suc, ◌+◌, ◌≤◌}
 use native.Mathlib.Omega.{arith}
@@ -10,7 +10,7 @@ use Rattle.text.specs.declared.Word.{Word}
 use Rattle.text.specs.declared.Word.TheVariants.{Number, End, Other}
 use Rattle.text.specs.Text.{word_at}
 use Rattle.text.proofs.Reading.{word_advances}
-use Rattle.lines.specs.Lines.{unreadable, number_before, after_word, numbers_from, numbers_at}
+use Rattle.lines.specs.Lines.{number_before, after_word, numbers_from, numbers_at}
 
 -- ---- any bound that is large enough reads the same
 
@@ -38,10 +38,10 @@ module _ (line : List ℕ) (at : ℕ) where
   unfolding numbers_at
   numbers_more n next e = bound_enough (length line) (suc (length line)) line at (omega arith) (omega arith) ∙ rw e
 
-  pub numbers_end : word_at line at ≡ End → numbers_at line at ≡ record { readable = true; list = [] }
+  pub numbers_end : word_at line at ≡ End → numbers_at line at ≡ Some []
   unfolding numbers_at
   numbers_end e = rw e
 
-  pub numbers_other : word_at line at ≡ Other → numbers_at line at ≡ unreadable
+  pub numbers_other : word_at line at ≡ Other → numbers_at line at ≡ None
   unfolding numbers_at
   numbers_other e = rw e

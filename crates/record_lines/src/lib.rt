@@ -2,79 +2,66 @@
 // record is, `records` tells; which mark is judged how, is decided here.
 #![tactic(auto)]
 
-ghost use Rattle.std.specs.Prelude.{◌≡◌, ◌≤◌, length, replicate};
-ghost use Rattle.text.specs.Text.{Written};
+ghost use Rattle.std.specs.Prelude.{◌≡◌, ◌≤◌};
+ghost use Rattle.text.specs.Text.{Wrote};
 ghost use Rattle.verdict.specs.Verdict.{verdict_seen};
 ghost use Rattle.record_lines.specs.Answers.{verdict_word, verdict_text, line_text, picture_size, verdict_by_mark, board_verdict};
 
 use grid::window::FLAT;
 use records::BoardMark;
 use refusals::Refusal;
-use text::{put_byte, put_bytes, put_number};
+use show::put_refused;
+use text::Text;
 use verdict::{Verdict, is_solvable, is_solvable_total};
 
-// `yes ` or `no `, from a place on.
-fn put_word(out: &mut [u8], at: usize, yes: bool) -> usize
-    requires { at ≤ length out.old }
-    ensures { Written out.old at (verdict_word yes) out.new result }
+// `yes ` or `no `
+fn put_word(out: &mut Text<'_>, yes: bool)
+    ensures { Wrote out.old out.new (verdict_word yes) }
 {
     if yes {
-        return put_bytes(out, at, b"yes ");
+        return out.bytes(b"yes ");
     }
-    put_bytes(out, at, b"no ")
+    out.bytes(b"no ");
 }
 
-// `yes 2 0 0` or `refused 1`, from a place on.
-pub fn put_verdict(out: &mut [u8], at: usize, verdict: Verdict) -> usize
-    requires { at ≤ length out.old }
-    ensures { Written out.old at (verdict_text verdict) out.new result }
+// `yes 2 0 0` or `refused 1`
+pub fn put_verdict(out: &mut Text<'_>, verdict: Verdict)
+    ensures { Wrote out.old out.new (verdict_text verdict) }
 {
     match verdict {
-        Verdict::Refused(refusal) => {
-            let word = put_bytes(out, at, b"refused ");
-            put_number(out, word, u8::from(refusal) as usize)
-        }
+        Verdict::Refused(refusal) => put_refused(out, refusal),
         Verdict::Judged(yes, opened, grade, rounds) => {
-            let mut k = put_word(out, at, yes);
-            k = put_number(out, k, opened);
-            k = put_byte(out, k, 32);
-            k = put_number(out, k, grade);
-            k = put_byte(out, k, 32);
-            put_number(out, k, rounds)
+            put_word(out, yes);
+            out.number(opened);
+            out.byte(b' ');
+            out.number(grade);
+            out.byte(b' ');
+            out.number(rounds);
         }
     }
 }
 
-// The line of a record, from a place on: its number, the verdict, the end of the line.
-pub fn put_line(out: &mut [u8], at: usize, number: usize, verdict: Verdict) -> usize
-    requires { at ≤ length out.old }
-    ensures { Written out.old at (line_text number verdict) out.new result }
+// The line of a record: its number, the verdict, the end of the line.
+pub fn put_line(out: &mut Text<'_>, number: usize, verdict: Verdict)
+    ensures { Wrote out.old out.new (line_text number verdict) }
 {
-    let after = put_number(out, at, number);
-    let gap = put_byte(out, after, 32);
-    let end = put_verdict(out, gap, verdict);
-    put_byte(out, end, 10)
+    out.number(number);
+    out.byte(b' ');
+    put_verdict(out, verdict);
+    out.byte(b'\n');
 }
 
 // How many cells of picture, and of rounds, a board is lent: all that it has, and none for a board that test 1 refuses.
+#[tactic(auto, unfolding(crate::specs::Answers::picture_size))]
 fn picture_size(rows: usize, columns: usize) -> usize
     ensures value { result ≡ picture_size rows columns }
     ensures upper_bound { result ≤ 1024 }
 {
-    if 32 < rows {
-        return 0;
+    if rows <= 32 && columns <= 32 {
+        rows * columns
+    } else {
+        0
     }
-    if 32 < columns {
-        return 0;
-    }
-    rows * columns
-}
-
-// A picture with nothing in it.
-fn zeros() -> [u8; 1024]
-    ensures { result ≡ replicate 1024 0 }
-{
-    [0; 1024]
 }
 
 // The verdict of a board by its mark. Which mark is judged how, is decided here alone.
@@ -114,7 +101,7 @@ pub fn board_verdict(
     ensures { result ≡ board_verdict mark rows columns row column cells.now }
 {
     let size = picture_size(rows, columns);
-    let mut picture = zeros();
+    let mut picture = [0u8; 1024];
     let mut opened_in = [0u16; 1024];
     verdict_by_mark(
         mark,

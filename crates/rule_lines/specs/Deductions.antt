@@ -13,7 +13,7 @@ use Rattle.show.specs.Blocks.{numbers_text, blocks_text}
 use Rattle.show.specs.Cells.{cells_text}
 use Rattle.show.specs.Refusals.{refused_text}
 use Rattle.lines.specs.declared.Line.{Line}
-use Rattle.lines.specs.Lines.{line_of, unreadable_text}
+use Rattle.lines.specs.Lines.{line_of, answer_text}
 
 -- `safe 1,5`
 abbrev pub safe_text : List ℕ → List ℕ
@@ -55,4 +55,4 @@ called_on rule l = deduction (rule_on rule) flat l.rows l.columns (take l.len l.
 
 -- a rule's answer to a line
 unfoldable pub deduction_line : Rule → List ℕ → List ℕ
-deduction_line rule line = cond (line_of line).readable (deduction_text rule (called_on rule (line_of line))) unreadable_text
+deduction_line rule line = answer_text (λ l. deduction_text rule (called_on rule l)) (line_of line)

@@ -2,98 +2,84 @@
 // hands them out.
 #![tactic(auto)]
 
-ghost use Rattle.std.specs.Prelude.{◌≡◌, ◌≤◌, length};
 ghost use Rattle.blocks.specs.BlockSets.{Whole};
 ghost use Rattle.deductions.specs.Answers.{seen};
 ghost use Rattle.deductions.specs.ByRule.{Readable};
-ghost use Rattle.text.specs.Text.{Written};
-ghost use Rattle.rule_lines.specs.Deductions.{found_text, leaves_blocks, left_text, deduction_text, deduction_line};
+ghost use Rattle.text.specs.Text.{Wrote};
+ghost use Rattle.rule_lines.specs.Deductions.{found_text, left_text, deduction_text, deduction_line};
 
 use blocks::BlockSet;
 use deductions::answer::DeductionAnswer;
 use deductions::{Rule, deduce};
 use grid::window::FLAT;
-use lines::read_line;
+use lines::{put_unreadable, read_line};
 use show::{put_blocks, put_cells, put_numbers, put_refused};
-use text::put_bytes;
+use text::Text;
 
 // `safe 1,5 mine 5 pos 0 12 0 1 1 11`
 fn put_found(
-    out: &mut [u8],
+    out: &mut Text<'_>,
     answer: &DeductionAnswer,
     position: &[u8],
     safe: &[u16],
     mines: &[u16],
-) -> usize
+)
     requires { Readable (seen answer.now position.now safe.now mines.now) }
-    ensures { Written out.old 0 (found_text (seen answer.now position.now safe.now mines.now)) out.new result }
+    ensures { Wrote out.old out.new (found_text (seen answer.now position.now safe.now mines.now)) }
 {
-    let mut at = put_bytes(out, 0, b"safe ");
-    at = put_numbers(out, at, safe, 0, answer.safe);
-    at = put_bytes(out, at, b" mine ");
-    at = put_numbers(out, at, mines, 0, answer.mines);
-    at = put_bytes(out, at, b" pos");
-    put_cells(out, at, position)
+    out.bytes(b"safe ");
+    put_numbers(out, &safe[..answer.safe]);
+    out.bytes(b" mine ");
+    put_numbers(out, &mines[..answer.mines]);
+    out.bytes(b" pos");
+    put_cells(out, position);
 }
 
-// Does a rule hand out the blocks that it leaves?
-fn leaves_blocks(rule: Rule) -> bool
-    ensures { result ≡ leaves_blocks rule }
+// ` blocks 0`, the blocks left; nothing where the rule hands none out.
+fn put_left(out: &mut Text<'_>, rule: Rule, left: &BlockSet)
+    requires { Whole left.now }
+    ensures { Wrote out.old out.new (left_text rule left.now) }
 {
     match rule {
-        Rule::Direct => true,
-        Rule::Minus => true,
-        Rule::Enumerate => false,
-    }
-}
-
-// ` blocks 0`, the blocks left, from a place on; nothing where the rule leaves none.
-fn put_left(out: &mut [u8], at: usize, rule: Rule, left: BlockSet) -> usize
-    requires at_in_bounds { at ≤ length out.old }
-    requires whole { Whole left }
-    ensures { Written out.old at (left_text rule left) out.new result }
-{
-    if leaves_blocks(rule) {
-        let gap = put_bytes(out, at, b" ");
-        put_blocks(out, gap, left)
-    } else {
-        at
+        Rule::Direct | Rule::Minus => {
+            out.bytes(b" ");
+            put_blocks(out, left);
+        }
+        Rule::Enumerate => {}
     }
 }
 
 // What the caller of a rule sees.
 fn put_deduction(
-    out: &mut [u8],
+    out: &mut Text<'_>,
     rule: Rule,
-    answer: DeductionAnswer,
+    answer: &DeductionAnswer,
     position: &[u8],
     safe: &[u16],
     mines: &[u16],
-) -> usize
-    requires { Readable (seen answer position.now safe.now mines.now) }
-    ensures { Written out.old 0 (deduction_text rule (seen answer position.now safe.now mines.now)) out.new result }
+)
+    requires { Readable (seen answer.now position.now safe.now mines.now) }
+    ensures { Wrote out.old out.new (deduction_text rule (seen answer.now position.now safe.now mines.now)) }
 {
     let tested = answer.tested;
     match tested {
         Err(refusal) => put_refused(out, refusal),
         Ok(()) => {
-            let at = put_found(out, &answer, position, safe, mines);
-            let left = answer.blocks;
-            put_left(out, at, rule, left)
+            put_found(out, answer, position, safe, mines);
+            put_left(out, rule, &answer.blocks);
         }
     }
 }
 
 // The answer of a rule to a line. Each list that is lent has room for any board.
-pub fn deduction_line(rule: Rule, line: &[u8], out: &mut [u8]) -> usize
-    ensures { Written out.old 0 (deduction_line rule line.now) out.new result }
+pub fn deduction_line(rule: Rule, line: &[u8], out: &mut Text<'_>)
+    ensures { Wrote out.old out.new (deduction_line rule line.now) }
 {
-    let read = read_line(line);
-    if !read.readable {
-        return put_bytes(out, 0, b"unreadable");
-    }
+    let Some(read) = read_line(line) else {
+        return put_unreadable(out);
+    };
     let mut cells = read.cells;
-    let len = read.len;
+    let position = &mut cells[..read.len];
     let mut safe = [0u16; 1024];
     let mut mines = [0u16; 1024];
     let answer = deduce(
@@ -101,9 +87,9 @@ pub fn deduction_line(rule: Rule, line: &[u8], out: &mut [u8]) -> usize
         FLAT,
         read.rows,
         read.columns,
-        &mut cells[..len],
+        position,
         &mut safe,
         &mut mines,
     );
-    put_deduction(out, rule, answer, &cells[..len], &safe, &mines)
+    put_deduction(out, rule, &answer, position, &safe, &mines);
 }

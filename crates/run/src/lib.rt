@@ -12,7 +12,7 @@ ghost use Rattle.run.specs.Steps.{next_after_end, next_after_damage, next_of, no
 use record_lines::{board_verdict, put_line};
 use records::{Record, read_record, record_length};
 use refusals::Refusal;
-use text::put_bytes;
+use text::Text;
 use verdict::Verdict;
 
 // How many verdicts say yes, say no, and refuse.
@@ -148,10 +148,11 @@ fn put_header(out: &mut [u8]) -> Part
     ensures at_front { AtFront header header_part result out.new }
     ensures out_len_unchanged { length out.new ≡ length out.old }
 {
-    let len = put_bytes(out, 0, b"board verdict opened grade rounds\n");
+    let mut text = Text::new(out);
+    text.bytes(b"board verdict opened grade rounds\n");
     Part {
         read: 0,
-        len,
+        len: text.len(),
         next: 1,
         tally: Tally {
             yes: 0,
@@ -167,10 +168,11 @@ fn put_answer(out: &mut [u8], number: usize, verdict: Verdict, size: usize, stat
     requires { (88 ≤ length out.old) × (number < 18446744073709551615) }
     ensures { AtFront (line_text number verdict) (line_part number verdict size state) result out.new }
 {
-    let len = put_line(out, 0, number, verdict);
+    let mut text = Text::new(out);
+    put_line(&mut text, number, verdict);
     Part {
         read: size,
-        len,
+        len: text.len(),
         next: number + 1,
         tally: tally_of(verdict),
         state,

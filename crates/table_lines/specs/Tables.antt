@@ -1,17 +1,19 @@
 -- Cited by no public contract. The answers of cal_all_solution to a line: `blocks 2 [groups 3 solutions 2 rows 0 1 0 / 1 0 1] [refused 9]`, `refused 2`, or
 -- `unreadable`. Each block of the position is asked for with a fresh table of 16,384 bytes, and its rows are read off the table's front as the caller sees it.
 -- Assumes nothing.
-use Rattle.std.specs.Prelude.{cond, List, [], ◌∷◌, ◌++◌, map, ℕ, ◌*◌, ◌≤◌, eqb, length, take, replicate, Ok, Err}
+use Rattle.std.specs.Prelude.{cond, List, [], ◌∷◌, ◌++◌, map, ℕ, ◌*◌, ◌≤◌, eqb, length, take, replicate, Result, Ok, Err}
 use Rattle.grid.specs.Window.{flat}
 use Rattle.lists.specs.Lists.{range, joined}
-use Rattle.refusals.specs.Refusals.{Tested, refusal_number}
+use Rattle.refusals.specs.declared.Refusal.{Refusal}
+use Rattle.refusals.specs.Refusals.{refusal_number}
+use Rattle.frontier.specs.declared.FrontierAnswer.{FrontierAnswer}
 use Rattle.tables.specs.declared.TableAnswer.{TableAnswer}
 use Rattle.tables.specs.Tables.{table_number, table_solutions, table_groups, TableSeen, row_at, cal_all_solution}
 use Rattle.text.specs.Text.{decimal}
 use Rattle.show.specs.Cells.{cells_text}
 use Rattle.show.specs.Refusals.{refused_text}
 use Rattle.lines.specs.declared.Line.{Line}
-use Rattle.lines.specs.Lines.{line_of, unreadable_text}
+use Rattle.lines.specs.Lines.{line_of, answer_text}
 use Rattle.frontier_lines.specs.Frontier.{answer_to}
 
 -- ---- the rows of a table
@@ -72,12 +74,11 @@ block_table rows columns p k = seen_text (cal_all_solution flat rows columns p k
 unfoldable pub tables_text : ℕ → ℕ → List ℕ → ℕ → List ℕ
 tables_text rows columns p n = (98 ∷ 108 ∷ 111 ∷ 99 ∷ 107 ∷ 115 ∷ 32 ∷ decimal n) ++ joined (map (block_table rows columns p) (range 0 n))
 
--- by the answer of the tests; n is the number of blocks that refresh_matrixs answers
-abbrev pub tables_after : Tested → Line → ℕ → List ℕ
-tables_after (Err r) l n = refused_text (refusal_number r)
-tables_after (Ok _) l n = tables_text l.rows l.columns (take l.len l.cells) n
+-- by what refresh_matrixs answers: it tells how many blocks there are
+abbrev pub tables_after : Result FrontierAnswer Refusal → Line → List ℕ
+tables_after (Err r) l = refused_text (refusal_number r)
+tables_after (Ok a) l = tables_text l.rows l.columns (take l.len l.cells) a.blocks.blocks
 
 -- the answers to a line: `blocks 0` where its position has no block
 unfoldable pub table_line : List ℕ → List ℕ
-table_line line =
-    cond (line_of line).readable (tables_after (answer_to (line_of line)).tested (line_of line) (answer_to (line_of line)).blocks.blocks) unreadable_text
+table_line line = answer_text (λ l. tables_after (answer_to l) l) (line_of line)

@@ -1,71 +1,74 @@
 -- Texts written one behind the other. Where the first ends inside the buffer, the second begins at its end; where the buffer was full, the second changes nothing, and
 -- neither would the rest of both together. So any two writes are one, and a loop that writes in each turn writes one text. Rests on the laws of runs of stores. Assumes nothing.
-use Prim.Native.Nat.{ℕ, ◌+◌, ◌-◌, ◌≤◌, ◌<◌, max}
+use Prim.Native.Nat.{ℕ, zero, suc, ◌+◌, ◌-◌, ◌≤◌, ◌<◌, max, min}
 use mathlib.Core.Path.{◌≡◌, refl, sym, ap, subst, ◌∙◌}
-use mathlib.Core.List.{List, [], ◌++◌, map}
+use mathlib.Core.List.{List, [], ◌∷◌, ◌++◌, map}
 use native.Mathlib.Decide.{dec_lt}
 use native.Mathlib.Omega.{arith}
-use lib.ListN.{length, length-append}
-use lib.Seq.{sets, length-sets}
+use lib.ListN.{length, take, get_or, length-append}
+use lib.Seq.{sets, length-sets, take_all}
+use Rattle.std.proofs.lemmas.List.{take_more}
 use Rattle.lists.specs.Lists.{range, joined}
-use Rattle.lists.proofs.Joined.{joined_range_last}
+use Rattle.lists.proofs.Joined.{joined_range_last, joined_push}
 use Rattle.lists.proofs.Stores.{sets_append, sets_past_end}
-use Rattle.text.specs.Text.{Written}
+use Rattle.text.specs.declared.Text.{Text}
+use Rattle.text.specs.Text.{Written, Wrote}
 
 -- ---- a single write
 
-written_none : (b : List ℕ) (at : ℕ) → at ≤ length b → Written b at [] b at
-written_none b at h = record { is = refl; next = omega arith }
+pub wrote_none : (a : Text) → Wrote a a []
+wrote_none a = record { same_buffer = refl; is = refl; next = omega arith }
 
-pub written_past_end : (b : List ℕ) (at : ℕ) (text : List ℕ) → at ≡ length b → Written b at text b at
-written_past_end b at text h = record { is = sym (sets_past_end b at text (omega arith)); next = omega arith }
+-- a text that is all that was written stands at the buffer's front
+pub written_front : {start end : Text} {text b out : List ℕ} {r : ℕ} → Wrote start end text → start.out.now ≡ b → start.len ≡ 0 → out ≡ end.out.now → r ≡ end.len → Written b 0 text out r
+written_front {start} {end} {text} {b} {out} {r} w front none left count =
+    record { is = left ∙ w.is ∙ rw (front, none); next = let e : length start.out.now ≡ length b = ap length front in omega (arith, w.next) }
 
 module _ {b : List ℕ} {at : ℕ} {x after : List ℕ} {r : ℕ} (w : Written b at x after r) where
   pub written_length : length after ≡ length b
   written_length = ap length w.is ∙ length-sets b at x
 
-  -- the next write has a place to begin
   pub written_within : r ≤ length after
   written_within = omega (arith, w.next, written_length)
 
 -- ---- two writes
 
-module _ {b : List ℕ} {at : ℕ} {x middle : List ℕ} {r : ℕ} {y after : List ℕ} {s : ℕ} where
-  pub written_both : at ≤ length b → Written b at x middle r → Written middle r y after s → Written b at (x ++ y) after s
-  written_both h v w = record { is = w.is ∙ go (dec_lt (at + length x) (length b)); next = omega (arith, v.next, w.next, written_length v, length-append x y) }
-    where
-      stored : sets middle (at + length x) y ≡ sets b at (x ++ y)
-      stored = rw v.is (sym (sets_append b at x y))
+pub wrote_both : {a b c : Text} {x y : List ℕ} → Wrote a b x → Wrote b c y → Wrote a c (x ++ y)
+wrote_both {a} {b} {c} {x} {y} v w =
+    record {
+      same_buffer = w.same_buffer ∙ v.same_buffer;
+      is = w.is ∙ go (dec_lt (a.len + length x) (length a.out.now));
+      next = omega (arith, v.next, w.next, long, length-append x y);
+    }
+  where
+    long : length b.out.now ≡ length a.out.now
+    long = ap length v.is ∙ length-sets a.out.now a.len x
 
-      go : Dec (at + length x < length b) → sets middle r y ≡ sets b at (x ++ y)
-      go (yes i) = let e : r ≡ at + length x = omega (arith, v.next) in rw e stored
-      go (no i) =
-          sets_past_end middle r y (omega (arith, v.next, written_length v))
-          ∙ sym (sets_past_end middle (at + length x) y (omega (arith, written_length v)))
-          ∙ stored
+    stored : sets b.out.now (a.len + length x) y ≡ sets a.out.now a.len (x ++ y)
+    stored = rw v.is (sym (sets_append a.out.now a.len x y))
+
+    go : Dec (a.len + length x < length a.out.now) → sets b.out.now b.len y ≡ sets a.out.now a.len (x ++ y)
+    go (yes i) = let e : b.len ≡ a.len + length x = omega (arith, v.next) in rw e stored
+    go (no i) =
+        sets_past_end b.out.now b.len y (omega (arith, v.next, long))
+        ∙ sym (sets_past_end b.out.now (a.len + length x) y (omega (arith, long)))
+        ∙ stored
 
 -- ---- loops
 
--- of a loop that writes f i for each i from `from` up to `to`: what comes before place i is written
-pub record WrittenUpTo (f : ℕ → List ℕ) (from to : ℕ) (b : List ℕ) (at i : ℕ) (out : List ℕ) (k : ℕ) : Type 0 where
-  pub room : at ≤ length b
-  pub past : from ≤ i
-  pub within : i ≤ max from to
-  pub written : Written b at (joined (map f (range from (i - from)))) out k
+-- of a loop that writes f x for each x of a list: the text of those up to place i, and then that of the next
+module _ {A : Type 0} {before now : Text} (f : A → List ℕ) (l : List A) (i : ℕ) where
+  pub wrote_next : {after : Text} (d : A) → i < length l → Wrote before now (joined (map f (take i l))) → Wrote now after (f (get_or l i d))
+      → Wrote before after (joined (map f (take (i + 1) l)))
+  wrote_next d h v w =
+      let e : joined (map f (take (i + 1) l)) ≡ joined (map f (take i l)) ++ f (get_or l i d) = ap (λ (x : List A). joined (map f x)) (take_more l i d h) ∙ joined_push f (take i l) (get_or l i d) in
+      rw e (wrote_both v w)
 
-module _ {f : ℕ → List ℕ} {from to : ℕ} {b : List ℕ} {at : ℕ} where
-  pub up_to_none : at ≤ length b → WrittenUpTo f from to b at from b at
-  up_to_none h =
-      let e : from - from ≡ 0 = omega arith in
-      record { room = h; past = omega arith; within = omega arith; written = rw e (written_none b at h) }
+  pub wrote_all : length l ≤ i → Wrote before now (joined (map f (take i l))) → Wrote before now (joined (map f l))
+  wrote_all h v = rw (take_all i l h) at v
 
-  pub up_to_next : {i : ℕ} {middle : List ℕ} {r : ℕ} {after : List ℕ} {s : ℕ} → i < to
-      → WrittenUpTo f from to b at i middle r → Written middle r (f i) after s → WrittenUpTo f from to b at (i + 1) after s
-  up_to_next {i} h v w =
-      record { room = v.room; past = omega arith; within = omega arith; written = rw (joined_range_last f from i v.past) (written_both v.room v.written w) }
-
-  pub up_to_last : {i : ℕ} {text after : List ℕ} {r : ℕ} → to ≤ i → joined (map f (range from (to - from))) ≡ text
-      → WrittenUpTo f from to b at i after r → Written b at text after r
-  up_to_last {i} {text} {after} {r} h t v =
-      let e : i - from ≡ to - from = omega arith in
-      subst (λ (x : List ℕ). Written b at x after r) (ap (λ (n : ℕ). joined (map f (range from n))) e ∙ t) v.written
+-- of a loop that writes f i for each i from `from` on
+module _ {before now : Text} (f : ℕ → List ℕ) (from i : ℕ) where
+  pub wrote_place : {after : Text} → from ≤ i → Wrote before now (joined (map f (range from (i - from)))) → Wrote now after (f i)
+      → Wrote before after (joined (map f (range from (i + 1 - from))))
+  wrote_place h v w = rw (joined_range_last f from i h) (wrote_both v w)

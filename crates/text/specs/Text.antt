@@ -1,6 +1,7 @@
 -- Text as a list of bytes: decimal numbers, what writing a text into a lent buffer leaves, and what is read in a line from a place on. Assumes nothing.
-use Rattle.std.specs.Prelude.{◌≡◌, Bool, false, cond, ◌&&◌, ◌||◌, List, [], ◌∷◌, ◌++◌, ℕ, zero, suc, ◌+◌, ◌-◌, ◌*◌, ◌/◌, ◌%◌, ◌<◌, min, leb, ltb, eqb, length, get_or, drop}
+use Rattle.std.specs.Prelude.{◌≡◌, Bool, false, cond, ◌&&◌, ◌||◌, List, [], ◌∷◌, ◌++◌, ℕ, zero, suc, ◌+◌, ◌-◌, ◌*◌, ◌/◌, ◌%◌, ◌<◌, min, max, leb, ltb, eqb, length, get_or, drop}
 use Rattle.std.proofs.lemmas.List.Edits.{sets}
+use Rattle.text.specs.declared.Text.{Text}
 use Rattle.text.specs.declared.Word.{Word}
 use Rattle.text.specs.declared.Word.TheVariants.{Number, End, Other}
 
@@ -20,13 +21,19 @@ pub record Written (before : List ℕ) (at : ℕ) (text after : List ℕ) (r : �
   pub is : after ≡ sets before at text
   pub next : r ≡ min (length before) (at + length text)
 
+-- a writer has put the text behind what it had written, into the same buffer and as far as that goes
+pub record Wrote (before after : Text) (text : List ℕ) : Type 0 where
+  pub same_buffer : after.out.ghost_name ≡ before.out.ghost_name
+  pub is : after.out.now ≡ sets before.out.now before.len text
+  pub next : after.len ≡ max before.len (min (length before.out.now) (before.len + length text))
+
 -- ---- reading
 
 -- a byte that may stand between numbers: a space, a slash, a tab, a carriage return
 unfoldable pub is_gap : ℕ → Bool
 is_gap b = eqb b 32 || (eqb b 47 || (eqb b 9 || eqb b 13))
 
-unfoldable pub is_digit : ℕ → Bool
+abbrev pub is_digit : ℕ → Bool
 is_digit b = leb 48 b && leb b 57
 
 -- digits that make the number n were read, and these bytes follow from place `at` on: the number goes on up to the first byte that isn't a digit, which must be a gap

@@ -3,7 +3,7 @@
 #![tactic(auto)]
 
 ghost use Rattle.std.specs.Prelude.{◌≡◌, true, [], ◌∷◌, ◌+◌, ◌-◌, ◌*◌, ◌≤◌, min, length, drop};
-ghost use Rattle.text.specs.Text.{decimal, Written, is_gap, is_digit, number_from, word_at, PastGaps};
+ghost use Rattle.text.specs.Text.{decimal, Wrote, is_gap, is_digit, number_from, word_at, PastGaps};
 
 // What is read in a line from a place on: a number and the place after it, the line's end, or anything else.
 #[derive(Clone, Copy)]
@@ -13,62 +13,68 @@ pub enum Word {
     Other,
 }
 
-// One byte.
-pub fn put_byte(out: &mut [u8], at: usize, byte: u8) -> usize
-    requires { at ≤ length out.old }
-    ensures { Written out.old at (byte ∷ []) out.new result }
-{
-    if at < out.len() {
-        out[at] = byte;
-        return at + 1;
-    }
-    at
+// Text written into a lent buffer, from its front on. At the buffer's end the writing stops, so the text is surely whole where it is shorter than the buffer.
+#[derive(Drop)]
+pub struct Text<'a> {
+    out: &'a mut [u8],
+    len: usize,
 }
 
-// The bytes of another slice.
-pub fn put_bytes(out: &mut [u8], at: usize, bytes: &[u8]) -> usize
-    requires { at ≤ length out.old }
-    ensures { Written out.old at bytes.now out.new result }
-{
-    let mut k = at;
-    for i in 0..bytes.len() {
-        k = put_byte(out, k, bytes[i]);
+impl<'a> Text<'a> {
+    // Nothing is written yet.
+    pub fn new(out: &'a mut [u8]) -> Text<'a>
+        ensures same_buffer { result.out.ghost_name ≡ out.entry.ghost_name }
+        ensures buffer { result.out.now ≡ out.old }
+        ensures len { result.len ≡ 0 }
+    {
+        Text { out, len: 0 }
     }
-    k
-}
 
-// A number in decimal.
-pub fn put_number(out: &mut [u8], at: usize, number: usize) -> usize
-    requires { at ≤ length out.old }
-    ensures { Written out.old at (decimal number) out.new result }
-{
-    if number < 10 {
-        return put_byte(out, at, 48 + (number as u8));
+    // How many bytes are written.
+    pub fn len(&self) -> usize
+        ensures { result ≡ self.now.len }
+    {
+        self.len
     }
-    let next = put_number(out, at, number / 10);
-    put_byte(out, next, 48 + ((number % 10) as u8))
+
+    // One byte.
+    pub fn byte(&mut self, byte: u8)
+        ensures { Wrote self.old self.new (byte ∷ []) }
+    {
+        if self.len < self.out.len() {
+            self.out[self.len] = byte;
+            self.len += 1;
+        }
+    }
+
+    // The bytes of a slice.
+    pub fn bytes(&mut self, bytes: &[u8])
+        ensures { Wrote self.old self.new bytes.now }
+    {
+        for &byte in bytes {
+            self.byte(byte);
+        }
+    }
+
+    // A number in decimal.
+    pub fn number(&mut self, number: usize)
+        ensures { Wrote self.old self.new (decimal number) }
+    {
+        if number < 10 {
+            self.byte(b'0' + (number as u8));
+            return;
+        }
+        self.number(number / 10);
+        self.byte(b'0' + ((number % 10) as u8));
+    }
 }
 
 // May the byte stand between numbers?
+#[tactic(auto, unfolding(crate::specs::Text::is_gap))]
 fn is_gap(byte: u8) -> bool
     ensures { result ≡ is_gap byte }
 {
-    if byte == 32 {
-        return true;
-    }
-    if byte == 47 {
-        return true;
-    }
-    if byte == 9 {
-        return true;
-    }
-    byte == 13
-}
-
-fn is_digit(byte: u8) -> bool
-    ensures { result ≡ is_digit byte }
-{
-    if 48 <= byte { byte <= 57 } else { false }
+    matches!(byte, b' ' | b'/' | b'\t' | b'\r')
 }
 
 // The first place from `at` on where no gap stands.
@@ -76,10 +82,7 @@ fn past_gaps(line: &[u8], at: usize) -> usize
     ensures { PastGaps line.now at result }
 {
     let mut i = at;
-    while i < line.len() {
-        if !is_gap(line[i]) {
-            return i;
-        }
+    while i < line.len() && is_gap(line[i]) {
         i += 1;
     }
     i
@@ -90,8 +93,8 @@ fn with_digit(number: usize, digit: u8) -> usize
     requires { (number ≤ 65535) × (is_digit digit ≡ true) }
     ensures { result ≡ min (number * 10 + (digit - 48)) 65535 }
 {
-    let longer = number * 10 + ((digit - 48) as usize);
-    if longer < 65535 { longer } else { 65535 }
+    let longer = number * 10 + usize::from(digit - b'0');
+    longer.min(65535)
 }
 
 // The number whose digits stand from `at` on.
@@ -102,11 +105,12 @@ fn digits_at(line: &[u8], at: usize) -> Word
     let mut i = at;
     while i < line.len() {
         let byte = line[i];
-        if !is_digit(byte) {
-            if is_gap(byte) {
-                return Word::Number(number, i);
-            }
-            return Word::Other;
+        if !byte.is_ascii_digit() {
+            return if is_gap(byte) {
+                Word::Number(number, i)
+            } else {
+                Word::Other
+            };
         }
         number = with_digit(number, byte);
         i += 1;
@@ -119,11 +123,11 @@ pub fn number_at(line: &[u8], at: usize) -> Word
     ensures { result ≡ word_at line.now at }
 {
     let start = past_gaps(line, at);
-    if start < line.len() {
-        if is_digit(line[start]) {
-            return digits_at(line, start);
-        }
-        return Word::Other;
+    if line.len() <= start {
+        return Word::End;
     }
-    Word::End
+    if line[start].is_ascii_digit() {
+        return digits_at(line, start);
+    }
+    Word::Other
 }

@@ -1,32 +1,35 @@
--- `board_lines::bbbv_line` meets its contract: each of its three ways writes the text that the definition has for it, by the answer's form (`AnswerWritten`). Assumes nothing.
-use native.Mathlib.Omega.{arith}
-use lib.ListN.{length-take}
-use borrow.Author.Rules.{rules}
-use borrow.Author.Tests.{not-true, not-false}
+-- `board_lines::bbbv_line` meets its contract: each of its three ways writes the text that the definition has for it. Assumes nothing.
+use mathlib.Core.Path.{◌≡◌, sym, ◌∙◌}
+use Rattle.std.specs.Prelude.{Some}
+use Rattle.lines.specs.Lines.{line_of}
 use Rattle.lines.proofs.CellsSoFar.{line_fits}
-use Rattle.lines.proofs.Answered.{unreadable_written}
-use Rattle.board_lines.specs.Bbbv.{bbbv_text, bbbv_of, bbbv_line}
-use Rattle.board_lines.proofs.AnswerWritten.{answer_written}
-use mathlib.Core.Path.{ap}
-use mathlib.Core.Bool.{not}
+use Rattle.board_lines.specs.Bbbv.{bbbv_of, bbbv_line}
 use Rattle.board_lines.proofs.bbbv_line.Goals as goal
+use Rattle.board_lines.proofs.bbbv_line.Goals.{In-Some, After-cal_bbbv}
 
-pub returns-then-not-read : goal.returns-then-not-read
+-- the line was read
+read : (c : In-Some) → line_of c.args.line.now ≡ Some c.in-Some.read
+read c = sym c.read_line.ensures ∙ c.in-Some.is
+
+-- and its board put to the call
+told : (c : After-cal_bbbv) → c.cal_bbbv.result ≡ bbbv_of c.in-Some.read
+told c = rw (c.flat.ensures, c.cells.ensures) at c.cal_bbbv.ensures.value
+
+pub returns-in_default : goal.returns-in_default
 unfolding bbbv_line
-returns-then-not-read c =
-    unreadable_written _ c.read_line-read.result c.read_line-read.ensures (λ l. bbbv_text (bbbv_of l))
-    (not-true c.read_line-read.result.readable c.if-not-read.true) c.put_bytes.ensures
+returns-in_default c = rw (sym c.read_line.ensures ∙ c.in_default.is) c.put_unreadable.ensures
 
-pub slice_bounds-cells-end : goal.slice_bounds-cells-end
-slice_bounds-cells-end c = line_fits _ _ c.read_line-read.ensures
+pub cells-requires : goal.cells-requires
+cells-requires c = (line_fits _ _ (read (goal.at.cells-requires c).In-Some)).0
 
-pub slice_bounds-cal_bbbv-end : goal.slice_bounds-cal_bbbv-end
-slice_bounds-cal_bbbv-end c = simp length-take (omega (arith, line_fits _ _ c.read_line-read.ensures))
-
-pub returns-in-Refused : goal.returns-in-Refused
+pub returns-in-Err : goal.returns-in-Err
 unfolding bbbv_line
-returns-in-Refused c = answer_written bbbv_text bbbv_of _ _ c.read_line-read.ensures (not-false _ c.if-not-read.false) c.cal_bbbv-answer.ensures.value c.in-Refused.is c.put_refused.ensures
+returns-in-Err c =
+    let c' = (goal.at.returns-in-Err c).After-cal_bbbv in
+    rw (read (goal.at.returns-in-Err c).In-Some, ← told c', c.in-Err.is) c.put_refused.ensures
 
-pub returns-in-Counted : goal.returns-in-Counted
+pub returns-in-Ok : goal.returns-in-Ok
 unfolding bbbv_line
-returns-in-Counted c = answer_written bbbv_text bbbv_of _ _ c.read_line-read.ensures (not-false _ c.if-not-read.false) c.cal_bbbv-answer.ensures.value c.in-Counted.is c.put_number.ensures
+returns-in-Ok c =
+    let c' = (goal.at.returns-in-Ok c).After-cal_bbbv in
+    rw (read (goal.at.returns-in-Ok c).In-Some, ← told c', c.in-Ok.is) c.number.ensures

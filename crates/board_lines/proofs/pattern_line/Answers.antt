@@ -1,36 +1,41 @@
--- `board_lines::pattern_line` meets its contract: each of its four ways writes the text that the definition has for it, by the answer's form (`AnswerWritten`). Assumes nothing.
-use native.Mathlib.Omega.{arith}
-use lib.ListN.{length-take}
-use borrow.Author.Rules.{rules}
-use borrow.Author.Tests.{not-true, not-false}
+-- `board_lines::pattern_line` meets its contract: each of its four ways writes the text that the definition has for it. Assumes nothing.
+use mathlib.Core.Path.{◌≡◌, sym, ◌∙◌}
+use Rattle.std.specs.Prelude.{Some}
+use Rattle.lines.specs.Lines.{line_of}
 use Rattle.lines.proofs.CellsSoFar.{line_fits}
-use Rattle.lines.proofs.Answered.{unreadable_written}
-use Rattle.board_lines.specs.Patterns.{pattern_text, pattern_of, pattern_line}
-use Rattle.board_lines.proofs.AnswerWritten.{answer_written}
-use mathlib.Core.Path.{ap}
-use mathlib.Core.Bool.{not}
+use Rattle.board_lines.specs.Patterns.{pattern_of, pattern_line}
 use Rattle.board_lines.proofs.pattern_line.Goals as goal
+use Rattle.board_lines.proofs.pattern_line.Goals.{In-Some, After-unsolvable_structure}
 
-pub returns-then-not-read : goal.returns-then-not-read
+-- the line was read
+read : (c : In-Some) → line_of c.args.line.now ≡ Some c.in-Some.read
+read c = sym c.read_line.ensures ∙ c.in-Some.is
+
+-- and its board put to the call
+told : (c : After-unsolvable_structure) → c.unsolvable_structure.result ≡ pattern_of c.in-Some.read
+told c = rw c.cells.ensures at c.unsolvable_structure.ensures
+
+pub returns-in_default : goal.returns-in_default
 unfolding pattern_line
-returns-then-not-read c =
-    unreadable_written _ c.read_line-read.result c.read_line-read.ensures (λ l. pattern_text (pattern_of l))
-    (not-true c.read_line-read.result.readable c.if-not-read.true) c.put_bytes.ensures
+returns-in_default c = rw (sym c.read_line.ensures ∙ c.in_default.is) c.put_unreadable.ensures
 
-pub slice_bounds-cells-end : goal.slice_bounds-cells-end
-slice_bounds-cells-end c = line_fits _ _ c.read_line-read.ensures
+pub cells-requires : goal.cells-requires
+cells-requires c = (line_fits _ _ (read (goal.at.cells-requires c).In-Some)).0
 
-pub slice_bounds-unsolvable_structure-end : goal.slice_bounds-unsolvable_structure-end
-slice_bounds-unsolvable_structure-end c = simp length-take (omega (arith, line_fits _ _ c.read_line-read.ensures))
-
-pub returns-in-Refused : goal.returns-in-Refused
+pub returns-in-Err : goal.returns-in-Err
 unfolding pattern_line
-returns-in-Refused c = answer_written pattern_text pattern_of _ _ c.read_line-read.ensures (not-false _ c.if-not-read.false) c.unsolvable_structure-answer.ensures c.in-Refused.is c.put_refused.ensures
+returns-in-Err c =
+    let c' = (goal.at.returns-in-Err c).After-unsolvable_structure in
+    rw (read (goal.at.returns-in-Err c).In-Some, ← told c', c.in-Err.is) c.put_refused.ensures
 
-pub returns-in-NotFound : goal.returns-in-NotFound
+pub returns-in-Ok-true : goal.returns-in-Ok-true
 unfolding pattern_line
-returns-in-NotFound c = answer_written pattern_text pattern_of _ _ c.read_line-read.ensures (not-false _ c.if-not-read.false) c.unsolvable_structure-answer.ensures c.in-NotFound.is c.put_bytes-in-NotFound.ensures
+returns-in-Ok-true c =
+    let c' = (goal.at.returns-in-Ok-true c).After-unsolvable_structure in
+    rw (read (goal.at.returns-in-Ok-true c).In-Some, ← told c', c.in-Ok-true.is) c.bytes.ensures
 
-pub returns-in-Found : goal.returns-in-Found
+pub returns-in-Ok-false : goal.returns-in-Ok-false
 unfolding pattern_line
-returns-in-Found c = answer_written pattern_text pattern_of _ _ c.read_line-read.ensures (not-false _ c.if-not-read.false) c.unsolvable_structure-answer.ensures c.in-Found.is c.put_bytes-in-Found.ensures
+returns-in-Ok-false c =
+    let c' = (goal.at.returns-in-Ok-false c).After-unsolvable_structure in
+    rw (read (goal.at.returns-in-Ok-false c).In-Some, ← told c', c.in-Ok-false.is) c.bytes-in-Ok-false.ensures

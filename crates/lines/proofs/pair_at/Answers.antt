@@ -1,33 +1,32 @@
 -- `pair_at` meets its contract: each of its ways is the form of the definition for the words that were read. Assumes nothing.
-use mathlib.Core.Path.{◌≡◌, sym, ◌∙◌}
-use Rattle.text.specs.declared.Word.TheVariants.{Number}
-use Rattle.text.specs.Text.{word_at}
-use Rattle.lines.specs.Lines.{pair_at}
-use borrow.Author.Rules.{rules}
+use mathlib.Core.Path.{◌≡◌, refl, sym, ◌∙◌}
+use mathlib.Core.List.{List}
+use Prim.Native.Nat.{ℕ}
+use Rattle.std.specs.Prelude.{None}
+use Rattle.text.specs.declared.Word.{Word}
+use Rattle.text.specs.declared.Word.TheVariants.{Number, End, Other}
+use Rattle.lines.specs.Lines.{pair_with, pair_after, pair_at}
 use Rattle.lines.proofs.pair_at.Goals as goal
-use Rattle.lines.proofs.pair_at.Goals.{In-Number}
 
--- the first word is a number
-first : (c : In-Number)
-    → word_at c.args.line.now c.args.at ≡ Number c.in-Number.first c.in-Number.second
-first c = sym c.number_at.ensures ∙ c.in-Number.is
+-- a word that is no number is none of two
+no_second : (first : ℕ) (w : Word) → ((n next : ℕ) → w ≡ Number n next → ⊥) → None ≡ pair_with first w
+no_second first (Number n next) h = absurd (h n next refl)
+no_second first End h = refl
+no_second first Other h = refl
 
-pub returns-in-Number-number_at : goal.returns-in-Number-number_at
+no_first : (line : List ℕ) (w : Word) → ((n next : ℕ) → w ≡ Number n next → ⊥) → None ≡ pair_after line w
+no_first line (Number n next) h = absurd (h n next refl)
+no_first line End h = refl
+no_first line Other h = refl
+
+pub returns-in_default : goal.returns-in_default
 unfolding pair_at
-returns-in-Number-number_at c = rw (first (goal.at.returns-in-Number-number_at c).In-Number, sym c.number_at-in-Number.ensures ∙ c.in-Number-number_at.is)
+returns-in_default c = rw (sym c.number_at.ensures) (no_first _ _ c.in_default.not-Number)
 
-pub returns-in-End-number_at : goal.returns-in-End-number_at
+pub returns-in_default-number_at : goal.returns-in_default-number_at
 unfolding pair_at
-returns-in-End-number_at c = rw (first (goal.at.returns-in-End-number_at c).In-Number, sym c.number_at-in-Number.ensures ∙ c.in-End-number_at.is)
+returns-in_default-number_at c = rw (sym c.number_at.ensures ∙ c.in-Number.is, sym c.number_at-2.ensures) (no_second _ _ c.in_default-number_at.not-Number)
 
-pub returns-in-Other-number_at : goal.returns-in-Other-number_at
+pub returns : goal.returns
 unfolding pair_at
-returns-in-Other-number_at c = rw (first (goal.at.returns-in-Other-number_at c).In-Number, sym c.number_at-in-Number.ensures ∙ c.in-Other-number_at.is)
-
-pub returns-in-End : goal.returns-in-End
-unfolding pair_at
-returns-in-End c = rw (sym c.number_at.ensures ∙ c.in-End.is)
-
-pub returns-in-Other : goal.returns-in-Other
-unfolding pair_at
-returns-in-Other c = rw (sym c.number_at.ensures ∙ c.in-Other.is)
+returns c = rw (sym c.number_at.ensures ∙ c.in-Number.is, sym c.number_at-2.ensures ∙ c.in-Number-number_at.is)

@@ -45,4 +45,4 @@ pub returns-in-End : goal.returns-in-End
 returns-in-End c = cells_all _ _ _ c.loop-number.invariant (sym c.number_at.ensures ∙ c.in-End.is)
 
 pub returns-in-Other : goal.returns-in-Other
-returns-in-Other c = c.no_line.ensures ∙ cells_other _ _ _ c.loop-number.invariant (sym c.number_at.ensures ∙ c.in-Other.is)
+returns-in-Other c = cells_other _ _ _ c.loop-number.invariant (sym c.number_at.ensures ∙ c.in-Other.is)

@@ -1,14 +1,7 @@
-use mathlib.Core.Path.{◌≡◌, sym, ◌∙◌}
-use Prim.Native.Nat.{◌-◌, ◌≤◌, ◌<◌}
-use native.Mathlib.Omega.{arith}
+use Prim.Native.Nat.{◌-◌}
 use lib.ListN.{length}
-use borrow.Author.Rules.{rules}
-use Rattle.lists.proofs.Arrays.{pad_nil}
-use Rattle.text.specs.declared.Word.TheVariants.{Number}
-use Rattle.text.specs.Text.{word_at}
-use Rattle.text.proofs.Reading.{word_advances}
 use Rattle.lines.specs.Lines.{with_cells, numbers_at}
-use Rattle.lines.proofs.CellsSoFar.{CellsSoFar, cells_none, cells_push, cells_full, cells_all, cells_other}
+use Rattle.lines.proofs.CellsSoFar.{CellsSoFar}
 use Rattle.lines.proofs.read_cells.Given as goal
 
 abbrev pub invariant-loop-number : goal.invariant-loop-number

@@ -9,7 +9,9 @@ use borrow.Author.Rules.{rules}
 use Rattle.record_lines.proofs.board_verdict.Goals as goal
 
 pub slice_bounds-verdict_by_mark-end : goal.slice_bounds-verdict_by_mark-end
-slice_bounds-verdict_by_mark-end c = simp length-take (omega (arith, ap length c.zeros-picture.ensures))
+slice_bounds-verdict_by_mark-end c =
+    let size = c.picture_size-size in
+    sym (length-take-le size.result (replicate {A = ℕ} 1024 0) (omega (arith, size.ensures.upper_bound, length-replicate {A = ℕ} 1024 0)))
 
 pub slice_bounds-verdict_by_mark-end-2 : goal.slice_bounds-verdict_by_mark-end-2
 slice_bounds-verdict_by_mark-end-2 c =
@@ -19,4 +21,4 @@ slice_bounds-verdict_by_mark-end-2 c =
 pub returns : goal.returns
 returns c =
     let size = c.picture_size-size.ensures in
-    verdict_of_zeros _ _ _ _ _ _ _ _ _ size.value size.upper_bound c.zeros-picture.ensures refl c.verdict_by_mark.ensures
+    verdict_of_zeros _ _ _ _ _ _ _ _ _ size.value size.upper_bound refl refl c.verdict_by_mark.ensures

@@ -1,10 +1,9 @@
-use Prim.Native.Nat.{◌-◌}
-use lib.ListN.{length, get_or}
-use borrow.Author.Rules.{rules}
-use Rattle.lists.proofs.Joined.{joined_places}
-use Rattle.text.proofs.Writing.{written_length, written_within, WrittenUpTo, up_to_none, up_to_next, up_to_last}
-use Rattle.show.specs.Cells.{marked_text, cells_text}
+use mathlib.Core.List.{map}
+use lib.ListN.{take}
+use Rattle.lists.specs.Lists.{joined}
+use Rattle.text.specs.Text.{Wrote}
+use Rattle.show.specs.Cells.{marked_text}
 use Rattle.show.proofs.put_cells.Given as goal
 
-abbrev pub invariant-loop-i : goal.invariant-loop-i
-invariant-loop-i l = WrittenUpTo (λ j. marked_text 32 (get_or l.cells j 0)) 0 (length l.cells) l.initial.out l.at l.i l.out l.k
+abbrev pub invariant-loop-cell : goal.invariant-loop-cell
+invariant-loop-cell l = Wrote l.initial.out l.out (joined (map (marked_text 32) (take l.cell-index l.cells)))

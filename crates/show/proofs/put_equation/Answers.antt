@@ -1,15 +1,22 @@
 -- `show::put_equation` meets its contract: the four writes are one text, and the list of eight that `slots_at` gives reads as the equation's cells. Assumes nothing.
-use borrow.Author.Rules.{rules}
-use Rattle.text.proofs.Writing.{written_within}
-use Rattle.show.proofs.Parts.{listed_fits, equation_written}
+use mathlib.Core.Path.{◌≡◌, ap, ◌∙◌}
+use mathlib.Core.List.{List}
+use Prim.Native.Nat.{ℕ}
+use native.Mathlib.Omega.{arith}
+use lib.ListN.{take}
+use Rattle.grid.specs.declared.window.UpToEight.{UpToEight}
+use Rattle.grid.specs.Window.{listed}
+use Rattle.blocks.specs.BlockSets.{slot_cells}
+use Rattle.blocks.proofs.Between.{slots_eight, listed_cells}
+use Rattle.text.proofs.Writing.{wrote_both}
+use Rattle.show.specs.Blocks.{equation_text}
 use Rattle.show.proofs.put_equation.Goals as goal
 
-pub put_numbers-requires : goal.put_numbers-requires
-put_numbers-requires c =
-    let a = c.args in
-    (written_within c.put_byte-equals.ensures, listed_fits a.slots.now a.e c.slots_at-list.result c.slots_at-list.ensures)
+pub as_slice-requires : goal.as_slice-requires
+as_slice-requires c = rw c.slots_at-cells.ensures (slots_eight c.args.set.now.slots c.args.e)
 
 pub returns : goal.returns
+unfolding equation_text
 returns c =
-    equation_written c.requires.at_in_bounds c.args.slots.now c.args.rests.now c.args.e c.slots_at-list.result c.slots_at-list.ensures
-    c.put_bytes-bar.ensures c.put_remainder-remainder.ensures c.put_byte-equals.ensures c.put_numbers.ensures
+    let e = c.as_slice.ensures ∙ listed_cells c.slots_at-cells.result c.args.set.now.slots c.args.e c.slots_at-cells.ensures in
+    wrote_both (wrote_both c.bytes.ensures c.put_remainder.ensures) (wrote_both c.byte.ensures (rw e at c.put_numbers.ensures))

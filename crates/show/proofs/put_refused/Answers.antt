@@ -1,10 +1,7 @@
 -- `show::put_refused` meets its contract: the word and the number are one text. Assumes nothing.
-use native.Mathlib.Omega.{arith}
-use borrow.Author.Rules.{rules}
-use Rattle.text.proofs.Writing.{written_both}
+use mathlib.Core.Path.{◌∙◌}
+use Rattle.text.proofs.Writing.{wrote_both}
 use Rattle.show.proofs.put_refused.Goals as goal
 
 pub returns : goal.returns
-returns c =
-    written_both (omega arith) c.put_bytes-word.ensures
-    (rw c.from.ensures at c.put_number.ensures)
+returns c = wrote_both c.bytes.ensures (rw (c.from-2.ensures ∙ c.from.ensures) at c.number.ensures)

@@ -1,10 +1,12 @@
 -- `show::put_remainder` meets its contract: below 8 a sign and what is missing, from 8 on what is more. Assumes nothing.
-use borrow.Author.Rules.{rules}
-use Rattle.show.proofs.Parts.{remainder_negative, remainder_whole}
+use borrow.Author.Tests.{lt-ltb, le-ltb}
+use Rattle.show.specs.Blocks.{remainder_text}
 use Rattle.show.proofs.put_remainder.Goals as goal
 
 pub returns-then-number-lt8 : goal.returns-then-number-lt8
-returns-then-number-lt8 c = rw (remainder_negative _ _ c.wide_byte-number.ensures.0 c.if-number-lt8.true) c.put_marked.ensures
+unfolding remainder_text
+returns-then-number-lt8 c = rw (← c.from-number.ensures, lt-ltb _ 8 c.if-number-lt8.true) c.put_marked.ensures
 
 pub returns : goal.returns
-returns c = rw (remainder_whole _ _ c.wide_byte-number.ensures.0 c.if-number-lt8.false) c.put_number.ensures
+unfolding remainder_text
+returns c = rw (← c.from-number.ensures, le-ltb _ 8 c.if-number-lt8.false) c.number.ensures

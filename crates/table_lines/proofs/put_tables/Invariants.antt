@@ -1,13 +1,9 @@
-use Prim.Native.Nat.{ℕ, ◌-◌}
-use mathlib.Core.Path.{◌≡◌, ap, ◌∙◌}
+use Prim.Native.Nat.{◌-◌}
 use mathlib.Core.List.{map}
-use native.Mathlib.Omega.{arith}
-use borrow.Author.Rules.{rules}
 use Rattle.lists.specs.Lists.{range, joined}
-use Rattle.text.proofs.Writing.{written_length, written_within, WrittenUpTo, up_to_none, up_to_next, up_to_last}
+use Rattle.text.specs.Text.{Wrote}
 use Rattle.table_lines.specs.Tables.{block_table}
-use Rattle.table_lines.proofs.TablesWritten.{tables_written}
 use Rattle.table_lines.proofs.put_tables.Given as goal
 
 abbrev pub invariant-loop-k : goal.invariant-loop-k
-invariant-loop-k l = WrittenUpTo (block_table l.rows l.columns l.position) 0 l.blocks l.initial.out l.initial.next l.k l.out l.next
+invariant-loop-k l = Wrote l.initial.out l.out (joined (map (block_table l.rows l.columns l.position) (range 0 (l.k - 0))))

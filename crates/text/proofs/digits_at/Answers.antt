@@ -1,12 +1,9 @@
 -- `text::digits_at` meets its contract. The loop's invariant: what the number so far and the bytes from place i on read as is what is to be read, and the number is at most 65535.
 -- The measure is what is left of the line. It rests on the laws of a byte after a number, and of numbers cut down, in `Reading`. Assumes nothing.
-use Prim.Native.Nat.{◌-◌, ◌≤◌}
-use mathlib.Core.Path.{◌≡◌, refl, sym, ◌∙◌}
+use mathlib.Core.Path.{refl, sym, ◌∙◌}
 use native.Mathlib.Omega.{arith}
-use lib.ListN.{length, drop}
 use borrow.Author.Tests.{not-true, not-false}
 use borrow.Author.Rules.{rules}
-use Rattle.text.specs.Text.{number_from}
 use Rattle.text.proofs.Reading.{number_digit, number_gap, number_other, number_end}
 use mathlib.Core.Path.{ap}
 use mathlib.Core.Bool.{not}
@@ -19,27 +16,27 @@ pub returns-then-is_gap : goal.returns-then-is_gap
 returns-then-is_gap c =
     let l = c.loop-i in
     number_gap _ l.i c.loop-i-test.true l.number l.invariant.0
-    (sym c.is_digit.ensures ∙ not-true c.is_digit.result (ap not c.if-not-is_digit.true))
+    (sym c.is_ascii_digit.ensures.value ∙ not-true c.is_ascii_digit.result (ap not c.if-not-is_ascii_digit.true))
     (sym c.is_gap.ensures ∙ c.if-is_gap.true)
     ∙ l.invariant.1
 
-pub returns-then-not-is_digit : goal.returns-then-not-is_digit
-returns-then-not-is_digit c =
+pub returns-else-is_gap : goal.returns-else-is_gap
+returns-else-is_gap c =
     let l = c.loop-i in
     number_other _ l.i c.loop-i-test.true l.number l.invariant.0
-    (sym c.is_digit.ensures ∙ not-true c.is_digit.result (ap not c.if-not-is_digit.true))
+    (sym c.is_ascii_digit.ensures.value ∙ not-true c.is_ascii_digit.result (ap not c.if-not-is_ascii_digit.true))
     (sym c.is_gap.ensures ∙ c.if-is_gap.false)
     ∙ l.invariant.1
 
 pub with_digit-number-requires : goal.with_digit-number-requires
-with_digit-number-requires c = (search rules, sym c.is_digit.ensures ∙ not-false c.is_digit.result (ap not c.if-not-is_digit.false))
+with_digit-number-requires c = (search rules, sym c.is_ascii_digit.ensures.value ∙ not-false c.is_ascii_digit.result (ap not c.if-not-is_ascii_digit.false))
 
 pub loop-i-preserved : goal.loop-i-preserved
 loop-i-preserved c =
     let l = c.loop-i in (
       omega (arith, c.with_digit-number.ensures),
       number_digit _ l.i c.loop-i-test.true l.number l.invariant.0 _
-          (sym c.is_digit.ensures ∙ not-false c.is_digit.result (ap not c.if-not-is_digit.false))
+          (sym c.is_ascii_digit.ensures.value ∙ not-false c.is_ascii_digit.result (ap not c.if-not-is_ascii_digit.false))
           c.with_digit-number.ensures
           ∙ l.invariant.1,
     )
