@@ -3,8 +3,6 @@
 pub mod Marks
 pub mod Rows
 pub mod WalkedRows
--- the rows of a group's values
-pub mod Values
 -- the states of a walk, and the key that tells them apart
 pub mod Keys
 pub mod UnderwayStates

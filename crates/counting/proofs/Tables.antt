@@ -38,19 +38,19 @@ module _ {order : List ℕ} {groups : ℕ} {sizes columns start_rooms : List ℕ
       here : Underway c equations at needs (c.rooms_at at)
       here = rw state.room at state
 
-      -- an entry with the state's tag and key
-      pub right_known : (fits : Bool) → (fits ≡ true → digits ≡ key_of equations needs rooms start_rooms) → (fits && (eqb (get_or tags place 0) tag && eqb (get_or keys place 0) digits)) ≡ true
-          → Known allowed sizes count (unset order groups at) (tree_at order groups sizes columns at needs rooms) (get_or results place 0) reached mined unfilled
-      right_known fits is held =
-          let both : (eqb (get_or tags place 0) tag && eqb (get_or keys place 0) digits) ≡ true = and_right fits _ held in
-          let same_tag : get_or tags place 0 ≡ tag_of first at count = eqb-true _ _ (and_left _ (eqb (get_or keys place 0) digits) both) ∙ is_tag in
-          let same_key : key_of equations needs rooms start_rooms ≡ get_or keys place 0 = sym (eqb-true _ _ (and_right (eqb (get_or tags place 0) tag) _ both) ∙ is (and_left fits _ held)) in
-          rw state.room (right.entry place at count needs inside few same_tag here (rw state.room at same_key))
+      module _ (is : digits ≡ key_of equations needs rooms start_rooms) where
+        -- an entry with the state's tag and key
+        pub right_known : (eqb (get_or tags place 0) tag && eqb (get_or keys place 0) digits) ≡ true
+            → Known allowed sizes count (unset order groups at) (tree_at order groups sizes columns at needs rooms) (get_or results place 0) reached mined unfilled
+        right_known held =
+            let same_tag : get_or tags place 0 ≡ tag_of first at count = eqb-true _ _ (and_left _ (eqb (get_or keys place 0) digits) held) ∙ is_tag in
+            let same_key : key_of equations needs rooms start_rooms ≡ get_or keys place 0 = sym (eqb-true _ _ (and_right (eqb (get_or tags place 0) tag) _ held) ∙ is) in
+            rw state.room (right.entry place at count needs inside few same_tag here (rw state.room at same_key))
 
-      -- the state is kept there
-      module _ (found : ℕ) (known : Known allowed sizes count (unset order groups at) (tree_at order groups sizes columns at needs rooms) found reached mined unfilled) (room : place < 8192) (fewer : groups ≤ 1024) where
-        set_right : digits ≡ key_of equations needs rooms start_rooms → Right c equations allowed first (set tags place tag) (set keys place digits) (set results place found) reached mined unfilled
-        set_right is = record {
+        -- the state is kept there
+        pub right_kept : (found : ℕ) → Known allowed sizes count (unset order groups at) (tree_at order groups sizes columns at needs rooms) found reached mined unfilled → place < 8192 → groups ≤ 1024
+            → Right c equations allowed first (set tags place tag) (set keys place digits) (set results place found) reached mined unfilled
+        right_kept found known room fewer = record {
           whole = (length-set tags place tag ∙ right.whole.0, length-set keys place digits ∙ right.whole.1, length-set results place found ∙ right.whole.2);
           below = set_all (λ i t. t < first + 1050625) tags 0 place tag (omega (arith, is_tag, inside, few, fewer)) right.below;
           entry = λ i at' count' needs' o p e u k. go i at' count' needs' o p e u k (decided (eqb i place));
@@ -74,8 +74,3 @@ module _ {order : List ℕ} {groups : ℕ} {sizes columns start_rooms : List ℕ
                 let one_key : key_of equations needs' (c.rooms_at at) start_rooms ≡ key_of equations needs (c.rooms_at at) start_rooms =
                 (rw same_at at (k ∙ set_key)) ∙ is ∙ ap (λ (l : List ℕ). key_of equations needs l start_rooms) state.room in
                 rw (same_at, same_count, set_found, key_tells c one_place here one_key) (rw state.room at known)
-
-        pub right_kept : (fits : Bool) → (fits ≡ true → digits ≡ key_of equations needs rooms start_rooms)
-            → Right c equations allowed first (cond fits (set tags place tag) tags) (cond fits (set keys place digits) keys) (cond fits (set results place found) results) reached mined unfilled
-        right_kept true is = set_right (is refl)
-        right_kept false is = right

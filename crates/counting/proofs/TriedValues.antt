@@ -1,10 +1,10 @@
 -- The loop over the values of a group: what it has told of those tried so far, from none to all. A value that the group's equations cannot take adds nothing; one
--- that they can adds what the walk over the groups behind it told, with the value noted. The table stays right all the while. Rests on WalkedRows, Values and
+-- that they can adds what the walk over the groups behind it told, with the value noted. The table stays right all the while. Rests on WalkedRows and
 -- Tables. Assumes nothing.
 use mathlib.Core.Path.{◌≡◌, refl, sym, ap, ◌∙◌}
 use mathlib.Core.Bool.{Bool, true, false, ◌&&◌, ◌||◌, or-true, or-false}
 use mathlib.Core.List.{List, map}
-use Prim.Native.Nat.{ℕ, ◌+◌, ◌≤◌}
+use Prim.Native.Nat.{ℕ, suc, ◌+◌, ◌-◌, ◌≤◌}
 use native.Mathlib.Omega.{arith}
 use lib.Dec.{ltb, eqb}
 use lib.ListN.{get_or}
@@ -13,15 +13,19 @@ use Rattle.grid.specs.declared.window.UpToEight.{UpToEight}
 use Rattle.blocks.specs.BlockSets.{slot_cells}
 use Rattle.search.specs.Solutions.{sum}
 use Rattle.search.specs.Trees.{lowered, possible}
-use Rattle.search.specs.Searching.{unset, tree_at, tree_from}
+use Rattle.groups.specs.declared.Grouped.{Grouped}
+use Rattle.search.specs.declared.Unmet.{Unmet}
+use Rattle.search.specs.Searching.{raised, unset, unset_of, tree_at, tree_from}
 use Rattle.search.proofs.OrderedGroups.{Group, unset_none, unset_more}
-use Rattle.search.proofs.Branches.{tree_leaf}
-use Rattle.search.proofs.TakenValues.{places, Taken, taken_column}
+use Rattle.search.proofs.Branches.{tree_leaf, tree_values}
+use Rattle.search.proofs.FirstValues.{values_none, values_impossible, values_possible}
+use Rattle.search.proofs.TakenValues.{places, Taken, taken_column, back}
 use Rattle.counting.specs.Counting.{Marked, Walked}
-use Rattle.counting.specs.States.{Course, Underway, Right}
+use Rattle.counting.specs.declared.states.Met.{Met}
+use Rattle.counting.specs.declared.walking.Counted.{Counted}
+use Rattle.counting.specs.States.{CourseOf, UnderwayOf, StaysRight, WalkedOf}
 use Rattle.counting.proofs.Marks.{marked_nowhere, marked_same}
 use Rattle.counting.proofs.WalkedRows.{grown_same, grown_marked, walked_none, walked_leaf, walked_more, walked_value}
-use Rattle.counting.proofs.Values.{values_none, values_all, values_impossible, values_possible}
 use Rattle.counting.proofs.UnderwayStates.{underway_next}
 use Rattle.counting.proofs.Tables.{right_grown}
 
@@ -36,12 +40,6 @@ room_behind {order} {groups} {sizes = sizes} {at = at} {g = g} here count v h fe
     let split : room_of sizes (unset order groups at) ≡ get_or sizes g 0 + room_of sizes (unset order groups (at + 1)) = ap (room_of sizes) (unset_more here) in
     omega (arith, split, few, h)
 
--- the table is right of every course of which it was
-abbrev pub StaysRight : List ℕ → ℕ → ℕ → List ℕ → List ℕ → List ℕ → List ℕ → ℕ → ℕ → List ℕ → List ℕ → (tags keys results reached mined unfilled tags' keys' results' reached' mined' unfilled' : List ℕ) → Type 0
-StaysRight order groups equations sizes columns start_rooms allowed first at needs rooms tags keys results reached mined unfilled tags' keys' results' reached' mined' unfilled' =
-    (c : Course order groups sizes columns start_rooms) → Underway c equations at needs rooms
-    → Right c equations allowed first tags keys results reached mined unfilled → Right c equations allowed first tags' keys' results' reached' mined' unfilled'
-
 -- no group is left
 pub walked_end : (order : List ℕ) (groups : ℕ) (sizes columns allowed : List ℕ) (at count : ℕ) (needs rooms reached after mined unfilled : List ℕ) (found : Bool) → at ≡ groups
     → found ≡ (all (λ n. eqb n 0) needs && eqb (get_or allowed count 0) 1) → Marked (λ x. eqb count x && found) reached after
@@ -51,82 +49,72 @@ walked_end order groups sizes columns allowed at count needs rooms reached after
     (walked_leaf (all (λ n. eqb n 0) needs) found reached after mined unfilled is m)
 
 -- the first v values are tried
-pub record Tried (order : List ℕ) (groups equations : ℕ) (sizes columns start_rooms allowed : List ℕ) (first at count : ℕ)
-    (needs₀ rooms₀ reached₀ mined₀ unfilled₀ tags₀ keys₀ results₀ needs rooms reached mined unfilled tags keys results : List ℕ) (found : Bool) (v : ℕ) : Type 0 where
-  pub same_needs : needs ≡ needs₀
-  pub same_rooms : rooms ≡ rooms₀
-  pub told : Walked allowed sizes count (unset order groups at) (tree_from order groups sizes columns at 0 v needs₀ rooms₀) found reached₀ mined₀ unfilled₀ reached mined unfilled
-  pub right : StaysRight order groups equations sizes columns start_rooms allowed first at needs₀ rooms₀ tags₀ keys₀ results₀ reached₀ mined₀ unfilled₀ tags keys results reached mined unfilled
+pub record Tried (b : Grouped) (order allowed : List ℕ) (first at count v : ℕ) (before unmet : Unmet) (told_before : Counted) (met_before : Met) (told : Counted) (met : Met) (found : Bool) : Type 0 where
+  pub same : unmet ≡ before
+  pub walked : Walked allowed b.sizes count (unset_of b order at)
+      (tree_from order b.groups b.sizes b.columns at 0 (v - 0) before.needs before.rooms) found told_before.reached told_before.mined told_before.unfilled told.reached told.mined told.unfilled
+  pub right : StaysRight b order allowed first at before met_before told_before met told
 
--- the same of arrays that are equal
-pub tried_same : {order : List ℕ} {groups equations : ℕ} {sizes columns start_rooms allowed : List ℕ} {first at count : ℕ}
-    {needs₀ rooms₀ reached₀ mined₀ unfilled₀ tags₀ keys₀ results₀ needs rooms reached mined unfilled tags keys results needs' rooms' reached' mined' unfilled' tags' keys' results' : List ℕ} {found found' : Bool} {v : ℕ}
-    → needs' ≡ needs → rooms' ≡ rooms → reached' ≡ reached → mined' ≡ mined → unfilled' ≡ unfilled → tags' ≡ tags → keys' ≡ keys → results' ≡ results → found' ≡ found
-    → Tried order groups equations sizes columns start_rooms allowed first at count needs₀ rooms₀ reached₀ mined₀ unfilled₀ tags₀ keys₀ results₀ needs rooms reached mined unfilled tags keys results found v
-    → Tried order groups equations sizes columns start_rooms allowed first at count needs₀ rooms₀ reached₀ mined₀ unfilled₀ tags₀ keys₀ results₀ needs' rooms' reached' mined' unfilled' tags' keys' results' found' v
-tried_same n r a m u t k e f s = rw (n, r, a, m, u, t, k, e, f) s
+-- the same of equal values
+pub tried_same : {b : Grouped} {order allowed : List ℕ} {first at count v : ℕ} {before unmet unmet' : Unmet} {told_before : Counted} {met_before : Met} {told told' : Counted} {met met' : Met} {found found' : Bool}
+    → unmet' ≡ unmet → told' ≡ told → met' ≡ met → found' ≡ found
+    → Tried b order allowed first at count v before unmet told_before met_before told met found → Tried b order allowed first at count v before unmet' told_before met_before told' met' found'
+tried_same u t m f s = rw (u, t, m, f) s
 
-module _ {order : List ℕ} {groups equations : ℕ} {sizes columns start_rooms allowed : List ℕ} {first at count g : ℕ} (here : Group order groups equations sizes columns at g) where
+module _ {b : Grouped} {order allowed : List ℕ} {first at count g : ℕ} (here : Group order b.groups b.equations b.sizes b.columns at g) where
   -- none
-  pub tried_none : (needs rooms reached mined unfilled tags keys results : List ℕ)
-      → Tried order groups equations sizes columns start_rooms allowed first at count needs rooms reached mined unfilled tags keys results needs rooms reached mined unfilled tags keys results false 0
-  tried_none needs rooms reached mined unfilled tags keys results = record {
-    same_needs = refl;
-    same_rooms = refl;
-    told = rw (values_none here needs rooms) (walked_none (unset order groups at) reached mined unfilled);
+  pub tried_none : (unmet : Unmet) (told : Counted) (met : Met) → Tried b order allowed first at count 0 unmet unmet told met told met false
+  tried_none unmet told met = record {
+    same = refl;
+    walked = rw (values_none here unmet.needs unmet.rooms 0) (walked_none (unset_of b order at) told.reached told.mined told.unfilled);
     right = λ c u r. r;
   }
 
-  module _ {needs₀ rooms₀ reached₀ mined₀ unfilled₀ tags₀ keys₀ results₀ needs rooms reached mined unfilled tags keys results : List ℕ} {found : Bool} {v : ℕ}
-      (s : Tried order groups equations sizes columns start_rooms allowed first at count needs₀ rooms₀ reached₀ mined₀ unfilled₀ tags₀ keys₀ results₀ needs rooms reached mined unfilled tags keys results found v) where
+  module _ {v : ℕ} {before unmet : Unmet} {told_before : Counted} {met_before : Met} {told : Counted} {met : Met} {found : Bool}
+      (s : Tried b order allowed first at count v before unmet told_before met_before told met found) where
     -- all
-    pub tried_all : v ≡ get_or sizes g 0 + 1
-        → Walked allowed sizes count (unset order groups at) (tree_at order groups sizes columns at needs₀ rooms₀) found reached₀ mined₀ unfilled₀ reached mined unfilled
-    tried_all e = rw (values_all here needs₀ rooms₀ v e) s.told
+    pub tried_all : v ≡ suc (get_or b.sizes g 0) → WalkedOf b order allowed at count before found told_before told
+    tried_all e = let all_values : suc (get_or b.sizes g 0) ≡ v = omega (arith, e) in rw (tree_values here before.needs before.rooms (get_or b.sizes g 0) refl, all_values) s.walked
 
     -- one that is not possible
-    pub tried_impossible : (es : List ℕ) → es ≡ slot_cells columns g → possible (get_or sizes g 0) es needs rooms v ≡ false
-        → Tried order groups equations sizes columns start_rooms allowed first at count needs₀ rooms₀ reached₀ mined₀ unfilled₀ tags₀ keys₀ results₀ needs rooms reached mined unfilled tags keys results found (v + 1)
+    pub tried_impossible : (es : List ℕ) → es ≡ slot_cells b.columns g → possible (get_or b.sizes g 0) es unmet.needs unmet.rooms v ≡ false
+        → Tried b order allowed first at count (v + 1) before unmet told_before met_before told met found
     tried_impossible es column e = record {
-      same_needs = s.same_needs;
-      same_rooms = s.same_rooms;
-      told = rw (values_impossible here needs₀ rooms₀ v es column (rw (s.same_needs, s.same_rooms) at e)) s.told;
+      same = s.same;
+      walked = rw (values_impossible here before.needs before.rooms 0 v (omega arith) es column (rw s.same at e)) s.walked;
       right = s.right;
     }
 
-    -- one that is, with what the walk behind it told
-    module _ {list : UpToEight} {to : ℕ} (k : Taken order groups equations sizes columns at g needs rooms v to list) (fits : to ≤ get_or sizes g 0)
-        {needs_below rooms_below : List ℕ} (low_needs : needs_below ≡ lowered v (places list) needs) (low_rooms : rooms_below ≡ lowered (get_or sizes g 0) (places list) rooms) where
-      -- the state behind it, and the table there
-      pub tried_behind : (c : Course order groups sizes columns start_rooms) → Underway c equations at needs₀ rooms₀ → Underway c equations (at + 1) needs_below rooms_below
-      tried_behind c u = underway_next c (rw (s.same_needs, s.same_rooms) u) k fits low_needs low_rooms
+-- one that is possible
+module _ {b : Grouped} {order allowed : List ℕ} {first at count g v : ℕ} {list : UpToEight} {before unmet down : Unmet} {told_before : Counted} {met_before : Met} {told : Counted} {met : Met} {found : Bool}
+    (k : Taken order b.groups b.equations b.sizes b.columns at g unmet.needs unmet.rooms v (get_or b.sizes g 0) list) (s : Tried b order allowed first at count v before unmet told_before met_before told met found)
+    (low_needs : down.needs ≡ lowered v (places list) unmet.needs) (low_rooms : down.rooms ≡ lowered (get_or b.sizes g 0) (places list) unmet.rooms) where
+  -- the state behind it
+  pub tried_behind : (c : CourseOf b order) → UnderwayOf b order c at before → UnderwayOf b order c (at + 1) down
+  tried_behind c u = underway_next c (rw s.same u) k (omega arith) low_needs low_rooms
 
-      tried_possible : {needs' rooms' reached' mined' unfilled' tags' keys' results' mined'' unfilled'' : List ℕ} {below found' : Bool} → needs' ≡ needs → rooms' ≡ rooms
-          → Walked allowed sizes (count + v) (unset order groups (at + 1)) (tree_at order groups sizes columns (at + 1) needs_below rooms_below) below reached mined unfilled reached' mined' unfilled'
-          → StaysRight order groups equations sizes columns start_rooms allowed first (at + 1) needs_below rooms_below tags keys results reached mined unfilled tags' keys' results' reached' mined' unfilled'
-          → Marked (λ x. below && (eqb g x && ltb 0 v)) mined' mined'' → Marked (λ x. below && (eqb g x && ltb v (get_or sizes g 0))) unfilled' unfilled'' → found' ≡ (found || below)
-          → Tried order groups equations sizes columns start_rooms allowed first at count needs₀ rooms₀ reached₀ mined₀ unfilled₀ tags₀ keys₀ results₀ needs' rooms' reached' mined'' unfilled'' tags' keys' results' found' (v + 1)
-      tried_possible {reached' = reached'} {below = below} back_needs back_rooms w stays m u either = record {
-        same_needs = back_needs ∙ s.same_needs;
-        same_rooms = back_rooms ∙ s.same_rooms;
-        told = rw (values_possible here needs₀ rooms₀ v (places list) (taken_column k) (rw (s.same_needs, s.same_rooms) at k.can), either)
-            (walked_more s.told (rw (unset_more here) (walked_value g v (rw (low_needs, low_rooms, s.same_needs, s.same_rooms) at w) m u)));
-        right = λ c a r. right_grown c (stays c (tried_behind c a) (s.right c a r)) (grown_same reached') (grown_marked m) (grown_marked u);
-      }
+  -- what the walk behind it told
+  module _ {same up : Unmet} {told_below : Counted} {met_below : Met} {below : Bool} (kept : same ≡ down) (up_needs : up.needs ≡ raised v (places list) same.needs) (up_rooms : up.rooms ≡ raised (get_or b.sizes g 0) (places list) same.rooms)
+      (w : WalkedOf b order allowed (at + 1) (count + v) down below told told_below) (stays : StaysRight b order allowed first (at + 1) down met told met_below told_below) where
+    tried_possible : {told_after : Counted} {found' : Bool} → told_after.reached ≡ told_below.reached
+        → Marked (λ x. below && (eqb g x && ltb 0 v)) told_below.mined told_after.mined → Marked (λ x. below && (eqb g x && ltb v (get_or b.sizes g 0))) told_below.unfilled told_after.unfilled → found' ≡ (found || below)
+        → Tried b order allowed first at count (v + 1) before up told_before met_before told_after met_below found'
+    tried_possible {told_after} r m u either = record {
+      same = back k low_needs low_rooms kept up_needs up_rooms ∙ s.same;
+      walked = rw (values_possible k.here before.needs before.rooms 0 v (omega arith) (places list) (taken_column k) (rw s.same at k.can), either, r)
+          (walked_more s.walked (rw (unset_more k.here) (walked_value g v (rw (low_needs, low_rooms, s.same) at w) m u)));
+      right = λ c a q. rw r (right_grown c (stays c (tried_behind c a) (s.right c a q)) (grown_same told_below.reached) (grown_marked m) (grown_marked u));
+    }
 
-      module _ {needs' rooms' reached' mined' unfilled' tags' keys' results' : List ℕ} {below : Bool} (back_needs : needs' ≡ needs) (back_rooms : rooms' ≡ rooms)
-          (w : Walked allowed sizes (count + v) (unset order groups (at + 1)) (tree_at order groups sizes columns (at + 1) needs_below rooms_below) below reached mined unfilled reached' mined' unfilled')
-          (stays : StaysRight order groups equations sizes columns start_rooms allowed first (at + 1) needs_below rooms_below tags keys results reached mined unfilled tags' keys' results' reached' mined' unfilled') where
-        -- a row counts, and the value is noted
-        pub tried_found : {mined'' unfilled'' : List ℕ} → below ≡ true → Marked (λ x. eqb g x && ltb 0 v) mined' mined'' → Marked (λ x. eqb g x && ltb v (get_or sizes g 0)) unfilled' unfilled''
-            → Tried order groups equations sizes columns start_rooms allowed first at count needs₀ rooms₀ reached₀ mined₀ unfilled₀ tags₀ keys₀ results₀ needs' rooms' reached' mined'' unfilled'' tags' keys' results' true (v + 1)
-        tried_found e m u =
-            tried_possible back_needs back_rooms w stays (marked_same m (λ x. sym (ap (λ (t : Bool). t && (eqb g x && ltb 0 v)) e)))
-            (marked_same u (λ x. sym (ap (λ (t : Bool). t && (eqb g x && ltb v (get_or sizes g 0))) e))) (sym (ap (λ (t : Bool). found || t) e ∙ or-true found))
+    -- a row counts, and the value is noted
+    pub tried_found : {told_after : Counted} → below ≡ true → told_after.reached ≡ told_below.reached → Marked (λ x. eqb g x && ltb 0 v) told_below.mined told_after.mined
+        → Marked (λ x. eqb g x && ltb v (get_or b.sizes g 0)) told_below.unfilled told_after.unfilled → Tried b order allowed first at count (v + 1) before up told_before met_before told_after met_below true
+    tried_found e r m u =
+        tried_possible r (marked_same m (λ x. sym (ap (λ (t : Bool). t && (eqb g x && ltb 0 v)) e)))
+        (marked_same u (λ x. sym (ap (λ (t : Bool). t && (eqb g x && ltb v (get_or b.sizes g 0))) e))) (sym (ap (λ (t : Bool). found || t) e ∙ or-true found))
 
-        -- none does
-        pub tried_unfound : below ≡ false
-            → Tried order groups equations sizes columns start_rooms allowed first at count needs₀ rooms₀ reached₀ mined₀ unfilled₀ tags₀ keys₀ results₀ needs' rooms' reached' mined' unfilled' tags' keys' results' found (v + 1)
-        tried_unfound e =
-            tried_possible back_needs back_rooms w stays (marked_nowhere _ mined' (λ x. ap (λ (t : Bool). t && (eqb g x && ltb 0 v)) e))
-            (marked_nowhere _ unfilled' (λ x. ap (λ (t : Bool). t && (eqb g x && ltb v (get_or sizes g 0))) e)) (sym (ap (λ (t : Bool). found || t) e ∙ or-false found))
+    -- none does
+    pub tried_unfound : below ≡ false → Tried b order allowed first at count (v + 1) before up told_before met_before told_below met_below found
+    tried_unfound e =
+        tried_possible refl (marked_nowhere _ told_below.mined (λ x. ap (λ (t : Bool). t && (eqb g x && ltb 0 v)) e))
+        (marked_nowhere _ told_below.unfilled (λ x. ap (λ (t : Bool). t && (eqb g x && ltb v (get_or b.sizes g 0))) e)) (sym (ap (λ (t : Bool). found || t) e ∙ or-false found))

@@ -37,7 +37,7 @@ module _ (order : List ℕ) (groups : ℕ) (sizes columns : List ℕ) (begun : �
   unfolding rooms_after
   course_from = record {
     begun = begun;
-    start_needs_lem = needs;
+    start_needs = needs;
     rooms_at = λ at. rooms_after (at - begun);
     next = λ at h l.
         let one : at + 1 - begun ≡ suc (at - begun) = omega arith in
@@ -88,7 +88,7 @@ module _ {order : List ℕ} {groups : ℕ} {sizes columns start_rooms : List ℕ
       finished = λ e z h. finished e (decided (has (places list) e)) z h;
     }
       where
-        unbegun : (e : ℕ) → Decided (has (places list) e) → get_or rooms_below e 0 ≡ get_or start_rooms e 0 → get_or needs_below e 0 ≡ get_or c.start_needs_lem e 0
+        unbegun : (e : ℕ) → Decided (has (places list) e) → get_or rooms_below e 0 ≡ get_or start_rooms e 0 → get_or needs_below e 0 ≡ get_or c.start_needs e 0
         unbegun e (inl h) w =
             let r : get_or rooms_below e 0 ≡ get_or rooms e 0 - get_or sizes g 0 = rw h at (room e) in
             let n : get_or needs_below e 0 ≡ get_or needs e 0 - v = rw h at (need e) in

@@ -6,7 +6,7 @@ use Rattle.lists.specs.Lists.{bit, any}
 use Rattle.blocks.specs.Blocks.{Block}
 use Rattle.groups.specs.Groups.{firsts, sizes}
 use Rattle.search.specs.Solutions.{sum, solutions}
-use Rattle.counting.specs.declared.block.Counted.{Counted}
+use Rattle.counting.specs.declared.walking.Counted.{Counted}
 
 -- a row brings the mines to an allowed number
 abbrev pub counts_to : List ℕ → ℕ → List ℕ → Bool

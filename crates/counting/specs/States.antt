@@ -6,8 +6,12 @@ use Rattle.lists.specs.Lists.{range, keep, any}
 use Rattle.blocks.specs.BlockSets.{slot_cells}
 use Rattle.search.specs.Solutions.{sum}
 use Rattle.search.specs.Trees.{lowered}
-use Rattle.search.specs.Searching.{State, unset, tree_at}
-use Rattle.counting.specs.Counting.{counts_to, some_counts, gives, holds_mine, leaves_free}
+use Rattle.groups.specs.declared.Grouped.{Grouped}
+use Rattle.search.specs.declared.Unmet.{Unmet}
+use Rattle.search.specs.Searching.{State, unset, unset_of, tree_at, tree_of}
+use Rattle.counting.specs.declared.states.Met.{Met}
+use Rattle.counting.specs.declared.walking.Counted.{Counted}
+use Rattle.counting.specs.Counting.{counts_to, some_counts, gives, holds_mine, leaves_free, Walked}
 
 -- ---- the key of a state
 
@@ -32,7 +36,7 @@ tag_of first at count = first + at * 1025 + count
 -- where a walk began, and how much room the equations have at each place of the order
 pub record Course (order : List ℕ) (groups : ℕ) (sizes columns start_rooms : List ℕ) : Type 0 where
   pub begun : ℕ
-  pub start_needs_lem : List ℕ
+  pub start_needs : List ℕ
   pub rooms_at : ℕ → List ℕ
   pub next : (at : ℕ) → begun ≤ at → at < groups
       → rooms_at (at + 1) ≡ lowered (get_or sizes (get_or order at 0) 0) (slot_cells columns (get_or order at 0)) (rooms_at at)
@@ -44,7 +48,7 @@ pub record Underway {order : List ℕ} {groups : ℕ} {sizes columns start_rooms
   pub state : State equations needs rooms
   pub room : rooms ≡ c.rooms_at at
   pub less : (e : ℕ) → get_or rooms e 0 ≤ get_or start_rooms e 0
-  pub unbegun : (e : ℕ) → get_or rooms e 0 ≡ get_or start_rooms e 0 → get_or needs e 0 ≡ get_or c.start_needs_lem e 0
+  pub unbegun : (e : ℕ) → get_or rooms e 0 ≡ get_or start_rooms e 0 → get_or needs e 0 ≡ get_or c.start_needs e 0
   pub finished : (e : ℕ) → get_or rooms e 0 ≡ 0 → 0 < get_or start_rooms e 0 → get_or needs e 0 ≡ 0
 
 -- ---- what the table holds
@@ -68,3 +72,23 @@ pub record Right {order : List ℕ} {groups : ℕ} {sizes columns start_rooms : 
   pub entry : (i at count : ℕ) (needs : List ℕ) → at < groups → count ≤ 1024 → get_or tags i 0 ≡ tag_of first at count → Underway c equations at needs (c.rooms_at at)
       → key_of equations needs (c.rooms_at at) start_rooms ≡ get_or keys i 0
       → Known allowed sizes count (unset order groups at) (tree_at order groups sizes columns at needs (c.rooms_at at)) (get_or results i 0) reached mined unfilled
+
+-- ---- the same of the structs that the functions are given
+
+abbrev pub CourseOf : Grouped → List ℕ → Type 0
+CourseOf g order = Course order g.groups g.sizes g.columns g.rooms
+
+abbrev pub UnderwayOf : (g : Grouped) (order : List ℕ) → CourseOf g order → ℕ → Unmet → Type 0
+UnderwayOf g order c at unmet = Underway c g.equations at unmet.needs unmet.rooms
+
+abbrev pub RightOf : (g : Grouped) (order : List ℕ) → CourseOf g order → List ℕ → ℕ → Met → Counted → Type 0
+RightOf g order c allowed first met told = Right c g.equations allowed first met.tags met.keys met.results told.reached told.mined told.unfilled
+
+-- a table is right of every course of which it was before
+abbrev pub StaysRight : Grouped → List ℕ → List ℕ → ℕ → ℕ → Unmet → Met → Counted → Met → Counted → Type 0
+StaysRight g order allowed first at unmet before told_before after told_after =
+    (c : CourseOf g order) → UnderwayOf g order c at unmet → RightOf g order c allowed first before told_before → RightOf g order c allowed first after told_after
+
+abbrev pub WalkedOf : Grouped → List ℕ → List ℕ → ℕ → ℕ → Unmet → Bool → Counted → Counted → Type 0
+WalkedOf g order allowed at count unmet found before after =
+    Walked allowed g.sizes count (unset_of g order at) (tree_of g order at unmet) found before.reached before.mined before.unfilled after.reached after.mined after.unfilled

@@ -1,32 +1,58 @@
 // The walk over a block's groups: they are set one after another, each to every value that its equations can take, and mines are counted on the way. Where no
 // group is left and every equation has what it needs, the count is one that a solution has. Of the solutions whose count is allowed the walk marks the count,
 // the groups with a mine and the groups with a free cell. A state that the table has is not gone on from again: what would be marked is marked.
-ghost use Rattle.std.specs.Prelude.{◌≡◌, true, ◌&&◌, map, ℕ, ◌+◌, ◌-◌, ◌≤◌, ◌<◌, eqb, ltb, length, get_or};
+ghost use Rattle.std.specs.Prelude.{◌≡◌, true, ◌&&◌, map, ℕ, ◌+◌, ◌≤◌, ◌<◌, eqb, ltb, get_or};
 ghost use Rattle.lists.specs.Lists.{all};
 ghost use Rattle.search.specs.Solutions.{sum};
-ghost use Rattle.search.specs.Searching.{Ordered, unset, tree_at};
-ghost use Rattle.counting.specs.Counting.{Marked, Walked};
-ghost use Rattle.counting.specs.States.{Course, Underway, Right};
+ghost use Rattle.search.specs.Searching.{OrderOf, unset_of};
+ghost use Rattle.counting.specs.Counting.{Marked};
+ghost use Rattle.counting.specs.States.{CourseOf, UnderwayOf, RightOf, StaysRight, WalkedOf};
 
-use super::states::{holds, keep_state, key_of, place_of};
+use super::states::{Met, key_of, place_of};
 use blocks::slots_at;
 use grid::window::{wide, wide_byte};
-use search::{all_met, lower, possible, raise};
+use groups::Grouped;
+use search::Unmet;
+
+// 1 for each count that a solution with an allowed one has, 1 for each group with a mine in such a solution, 1 for each group with a free cell in one; else 0.
+#[derive(Drop)]
+pub struct Counted {
+    pub reached: [u8; 1025],
+    pub mined: [u8; 1024],
+    pub unfilled: [u8; 1024],
+}
+
+impl Counted {
+    // A solution with an allowed count gives group g, of so many cells, v mines: what that shows of it.
+    fn note_value(&mut self, g: usize, v: u8, size: u8)
+        requires { g < 1024 }
+        ensures reached_unchanged { self.new.reached ≡ self.old.reached }
+        ensures marked { Marked (λ x. eqb g x && ltb 0 v) self.old.mined self.new.mined }
+        ensures marked_2 { Marked (λ x. eqb g x && ltb v size) self.old.unfilled self.new.unfilled }
+    {
+        if 0 < v {
+            self.mined[g] = 1;
+        }
+        if v < size {
+            self.unfilled[g] = 1;
+        }
+    }
+}
 
 // No group is left: is this a solution with an allowed count? Then its count is reached.
 fn reach(
-    needs: &[u8; 1024],
+    unmet: &Unmet,
     equations: usize,
     allowed: &[u8; 1025],
     count: usize,
     reached: &mut [u8; 1025],
 ) -> bool
-    requires needs_len { (length needs.now ≡ 1024) × (equations ≤ 1024) × ((e : ℕ) → equations ≤ e → get_or needs.now e 0 ≡ 0) }
-    requires count_bound { (count ≤ 1024) × (length reached.old ≡ 1025) }
-    ensures value { result ≡ (all (λ n. eqb n 0) needs.now && eqb (get_or allowed.now count 0) 1) }
+    requires equations_bound { (equations ≤ 1024) × ((e : ℕ) → equations ≤ e → get_or unmet.now.needs e 0 ≡ 0) }
+    requires count_bound { count ≤ 1024 }
+    ensures value { result ≡ (all (λ n. eqb n 0) unmet.now.needs && eqb (get_or allowed.now count 0) 1) }
     ensures marked { Marked (λ x. eqb count x && result) reached.old reached.new }
 {
-    if !all_met(needs, equations) {
+    if !unmet.all_met(equations) {
         return false;
     }
     if allowed[count] != 1 {
@@ -36,160 +62,94 @@ fn reach(
     true
 }
 
-// A solution with an allowed count gives group g, of so many cells, v mines: what that shows of it.
-fn note_value(g: usize, v: u8, size: u8, mined: &mut [u8; 1024], unfilled: &mut [u8; 1024])
-    requires { (g < 1024) × (length mined.old ≡ 1024) × (length unfilled.old ≡ 1024) }
-    ensures marked { Marked (λ x. eqb g x && ltb 0 v) mined.old mined.new }
-    ensures marked_2 { Marked (λ x. eqb g x && ltb v size) unfilled.old unfilled.new }
-{
-    if 0 < v {
-        mined[g] = 1;
-    }
-    if v < size {
-        unfilled[g] = 1;
-    }
-}
-
 // The groups from place `at` of the order on, when `count` mines are set: does some solution have an allowed count? The tags of this walk begin at `first`.
 #[cycle(walk_walk_values)]
 pub fn walk(
+    grouped: &Grouped,
     order: &[u16; 1024],
-    groups: usize,
-    equations: usize,
-    sizes: &[u8; 1024],
-    columns: &[u16; 8192],
-    start_rooms: &[u8; 1024],
     allowed: &[u8; 1025],
     first: usize,
     at: usize,
     count: usize,
-    needs: &mut [u8; 1024],
-    rooms: &mut [u8; 1024],
-    reached: &mut [u8; 1025],
-    mined: &mut [u8; 1024],
-    unfilled: &mut [u8; 1024],
-    tags: &mut [u32; 8192],
-    keys: &mut [usize; 8192],
-    results: &mut [u8; 8192],
+    unmet: &mut Unmet,
+    told: &mut Counted,
+    met: &mut Met,
 ) -> bool
-    requires ordered { Ordered order.now groups equations sizes.now columns.now }
-    requires at_le_groups { (at ≤ groups) × (count + sum (map (λ (g : ℕ). get_or sizes.now g 0) (unset order.now groups at)) ≤ 1024) × (first ≤ 4000000000) }
-    requires reached_len { (length reached.old ≡ 1025) × (length mined.old ≡ 1024) × (length unfilled.old ≡ 1024) }
-    requires underway { (c : Course order.now groups sizes.now columns.now start_rooms.now) × Underway c equations at needs.old rooms.old
-        × Right c equations allowed.now first tags.old keys.old results.old reached.old mined.old unfilled.old }
-    ensures walked { Walked allowed.now sizes.now count (unset order.now groups at)
-        (tree_at order.now groups sizes.now columns.now at needs.old rooms.old) result
-        reached.old mined.old unfilled.old reached.new mined.new unfilled.new }
-    ensures needs_unchanged { (needs.new ≡ needs.old) × (rooms.new ≡ rooms.old) }
-    ensures right { (c : Course order.now groups sizes.now columns.now start_rooms.now)
-        → Underway c equations at needs.old rooms.old
-        → Right c equations allowed.now first tags.old keys.old results.old reached.old mined.old unfilled.old
-        → Right c equations allowed.now first tags.new keys.new results.new reached.new mined.new unfilled.new }
+    requires ordered { OrderOf grouped.now order.now }
+    requires at_le_groups { (at ≤ grouped.now.groups) × (count + sum (map (λ (g : ℕ). get_or grouped.now.sizes g 0) (unset_of grouped.now order.now at)) ≤ 1024) × (first ≤ 4000000000) }
+    requires underway { (c : CourseOf grouped.now order.now) × UnderwayOf grouped.now order.now c at unmet.old × RightOf grouped.now order.now c allowed.now first met.old told.old }
+    ensures walked { WalkedOf grouped.now order.now allowed.now at count unmet.old result told.old told.new }
+    ensures unmet_unchanged { unmet.new ≡ unmet.old }
+    ensures right { StaysRight grouped.now order.now allowed.now first at unmet.old met.old told.old met.new told.new }
 {
-    if at == groups {
-        return reach(needs, equations, allowed, count, reached);
+    if at == grouped.groups {
+        return reach(
+            unmet,
+            grouped.equations,
+            allowed,
+            count,
+            &mut told.reached,
+        );
     }
-    let key = key_of(equations, needs, rooms, start_rooms);
+    let Some(key) = key_of(grouped.equations, unmet, &grouped.rooms) else {
+        return walk_values(
+            grouped, order, allowed, first, at, count, unmet, told, met,
+        );
+    };
     let tag = (first + at * 1025 + count) as u32;
-    let fits = key.fits;
-    let digits = key.digits;
-    let place = place_of(digits, at, count);
-    if holds(tags, keys, place, tag, fits, digits) {
-        return results[place] == 1;
+    let place = place_of(key, at, count);
+    if let Some(found) = met.found_from(place, tag, key) {
+        return found;
     }
     let found = walk_values(
-        order,
-        groups,
-        equations,
-        sizes,
-        columns,
-        start_rooms,
-        allowed,
-        first,
-        at,
-        count,
-        needs,
-        rooms,
-        reached,
-        mined,
-        unfilled,
-        tags,
-        keys,
-        results,
+        grouped, order, allowed, first, at, count, unmet, told, met,
     );
-    keep_state(tags, keys, results, place, tag, fits, digits, found);
+    met.keep_state(place, tag, key, found);
     found
 }
 
 // The same, through every value of the group at place `at`.
 #[cycle(walk_walk_values)]
 pub fn walk_values(
+    grouped: &Grouped,
     order: &[u16; 1024],
-    groups: usize,
-    equations: usize,
-    sizes: &[u8; 1024],
-    columns: &[u16; 8192],
-    start_rooms: &[u8; 1024],
     allowed: &[u8; 1025],
     first: usize,
     at: usize,
     count: usize,
-    needs: &mut [u8; 1024],
-    rooms: &mut [u8; 1024],
-    reached: &mut [u8; 1025],
-    mined: &mut [u8; 1024],
-    unfilled: &mut [u8; 1024],
-    tags: &mut [u32; 8192],
-    keys: &mut [usize; 8192],
-    results: &mut [u8; 8192],
+    unmet: &mut Unmet,
+    told: &mut Counted,
+    met: &mut Met,
 ) -> bool
-    requires ordered { Ordered order.now groups equations sizes.now columns.now }
-    requires at_lt_groups { (at < groups) × (count + sum (map (λ (g : ℕ). get_or sizes.now g 0) (unset order.now groups at)) ≤ 1024) × (first ≤ 4000000000) }
-    requires reached_len { (length reached.old ≡ 1025) × (length mined.old ≡ 1024) × (length unfilled.old ≡ 1024) }
-    requires underway { (c : Course order.now groups sizes.now columns.now start_rooms.now) × Underway c equations at needs.old rooms.old
-        × Right c equations allowed.now first tags.old keys.old results.old reached.old mined.old unfilled.old }
-    ensures walked { Walked allowed.now sizes.now count (unset order.now groups at)
-        (tree_at order.now groups sizes.now columns.now at needs.old rooms.old) result
-        reached.old mined.old unfilled.old reached.new mined.new unfilled.new }
-    ensures needs_unchanged { (needs.new ≡ needs.old) × (rooms.new ≡ rooms.old) }
-    ensures right { (c : Course order.now groups sizes.now columns.now start_rooms.now)
-        → Underway c equations at needs.old rooms.old
-        → Right c equations allowed.now first tags.old keys.old results.old reached.old mined.old unfilled.old
-        → Right c equations allowed.now first tags.new keys.new results.new reached.new mined.new unfilled.new }
+    requires ordered { OrderOf grouped.now order.now }
+    requires at_lt_groups { (at < grouped.now.groups) × (count + sum (map (λ (g : ℕ). get_or grouped.now.sizes g 0) (unset_of grouped.now order.now at)) ≤ 1024) × (first ≤ 4000000000) }
+    requires underway { (c : CourseOf grouped.now order.now) × UnderwayOf grouped.now order.now c at unmet.old × RightOf grouped.now order.now c allowed.now first met.old told.old }
+    ensures walked { WalkedOf grouped.now order.now allowed.now at count unmet.old result told.old told.new }
+    ensures unmet_unchanged { unmet.new ≡ unmet.old }
+    ensures right { StaysRight grouped.now order.now allowed.now first at unmet.old met.old told.old met.new told.new }
 {
     let g = wide(order[at]);
-    let size = sizes[g];
-    let list = slots_at(columns, g);
-    let end = size + 1;
+    let size = grouped.sizes[g];
+    let list = slots_at(&grouped.columns, g);
     let mut found = false;
-    for v in 0..end {
-        if possible(list, size, v, needs, rooms) {
-            lower(list, v, needs);
-            lower(list, size, rooms);
+    for v in 0..=size {
+        if unmet.possible(list, size, v) {
+            unmet.set_group(list, size, v);
+            let count_below = count + wide_byte(v);
             let below = walk(
+                grouped,
                 order,
-                groups,
-                equations,
-                sizes,
-                columns,
-                start_rooms,
                 allowed,
                 first,
                 at + 1,
-                count + wide_byte(v),
-                needs,
-                rooms,
-                reached,
-                mined,
-                unfilled,
-                tags,
-                keys,
-                results,
+                count_below,
+                unmet,
+                told,
+                met,
             );
-            raise(list, v, needs);
-            raise(list, size, rooms);
+            unmet.unset_group(list, size, v);
             if below {
-                note_value(g, v, size, mined, unfilled);
+                told.note_value(g, v, size);
                 found = true;
             }
         }

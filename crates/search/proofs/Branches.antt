@@ -1,5 +1,5 @@
--- The tree of the search, step by step, as the code takes them: no group left; the values of the first unset group from 0 on; a value past the last; a value that
--- its equations cannot take; and one that they can, whose rows come before those of the next values. Every row has a value for each unset group. Assumes nothing.
+-- The tree of the search, step by step, as the code takes them: no group left, and the values of the first unset group from 0 on. Every row has a value for each
+-- unset group. Assumes nothing.
 use mathlib.Core.Path.{◌≡◌, sym, ap, ◌∙◌}
 use mathlib.Core.Bool.{Bool, true, false, cond}
 use mathlib.Core.List.Memᴰ
@@ -9,7 +9,6 @@ use native.Mathlib.Omega.{arith}
 use lib.Dec.{eqb}
 use lib.ListN.{length, get_or}
 use Rattle.lists.specs.Lists.{range, all, joined}
-use Rattle.lists.proofs.Members.{range_more, range_none}
 use Rattle.blocks.specs.BlockSets.{slot_cells}
 use Rattle.lists.proofs.PassingElements.{Each, each_mapped, each_joined}
 use Rattle.search.specs.Trees.{lowered, possible, branches, tree}
@@ -19,23 +18,17 @@ use Rattle.search.proofs.OrderedGroups.{Group, unset_none, unset_more}
 -- ---- any sizes and columns
 
 module _ (size : ℕ → ℕ) (column : ℕ → List ℕ) where
-  module _ (sub : List ℕ → List ℕ → List (List ℕ)) (g v to : ℕ) (needs rooms : List ℕ) where
+  module _ (sub : List ℕ → List ℕ → List (List ℕ)) (g : ℕ) (needs rooms : List ℕ) where
     -- what follows for one value
     abbrev pub branch : ℕ → List (List ℕ)
     branch x = cond (possible (size g) (column g) needs rooms x)
         (map (λ (row : List ℕ). x ∷ row) (sub (lowered x (column g) needs) (lowered (size g) (column g) rooms))) []
 
-    branches_more : v ≤ to → branches size column sub g v (suc to - v) needs rooms ≡ branch v ++ branches size column sub g (v + 1) (suc to - (v + 1)) needs rooms
-    branches_more h = ap (λ (r : List ℕ). joined (map branch r)) (range_more v (suc to) (omega arith))
-
-    branches_none : to < v → branches size column sub g v (suc to - v) needs rooms ≡ []
-    branches_none h = ap (λ (r : List ℕ). joined (map branch r)) (range_none v (suc to) (omega arith))
-
   -- rows of one length, and a value before each
   branches_wide : (sub : List ℕ → List ℕ → List (List ℕ)) (w : ℕ) → ((n r : List ℕ) → Each (λ row. length row ≡ w) (sub n r))
       → (g v k : ℕ) (needs rooms : List ℕ) → Each (λ row. length row ≡ suc w) (branches size column sub g v k needs rooms)
   branches_wide sub w h g v k needs rooms =
-      each_joined (λ row. length row ≡ suc w) (branch sub g v k needs rooms) (range v k) (λ x m. go x (possible (size g) (column g) needs rooms x))
+      each_joined (λ row. length row ≡ suc w) (branch sub g needs rooms) (range v k) (λ x m. go x (possible (size g) (column g) needs rooms x))
     where
       go : (x : ℕ) (t : Bool)
           → Each (λ row. length row ≡ suc w) (cond t (map (λ (row : List ℕ). x ∷ row) (sub (lowered x (column g) needs) (lowered (size g) (column g) rooms))) [])
@@ -76,36 +69,3 @@ module _ {order : List ℕ} {groups equations : ℕ} {sizes columns : List ℕ} 
       ap (λ (gs : List ℕ). tree (λ (x : ℕ). get_or sizes x 0) (slot_cells columns) gs needs rooms) (unset_more h)
       ∙ ap (λ (x : ℕ). branches (λ (y : ℕ). get_or sizes y 0) (slot_cells columns) (tree (λ (y : ℕ). get_or sizes y 0) (slot_cells columns) (unset order groups (at + 1))) x 0 (suc (get_or sizes g 0)) needs rooms) h.is
       ∙ ap (λ (n : ℕ). branches (λ (y : ℕ). get_or sizes y 0) (slot_cells columns) (tree (λ (y : ℕ). get_or sizes y 0) (slot_cells columns) (unset order groups (at + 1))) (get_or order at 0) 0 n needs rooms) all_values
-
-  module _ (v to : ℕ) where
-    pub from_none : to < v → tree_from order groups sizes columns at v (suc to - v) needs rooms ≡ []
-    unfolding tree_from
-    from_none u = branches_none (λ (x : ℕ). get_or sizes x 0) (slot_cells columns) (tree (λ (x : ℕ). get_or sizes x 0) (slot_cells columns) (unset order groups (at + 1))) (get_or order at 0) v to needs rooms u
-
-    module _ (within : v ≤ to) (es : List ℕ) (column : es ≡ slot_cells columns g) where
-      here : get_or order at 0 ≡ g
-      here = sym h.is
-
-      more : (t : Bool) → possible (get_or sizes g 0) es needs rooms v ≡ t
-          → tree_from order groups sizes columns at v (suc to - v) needs rooms
-          ≡ cond t (map (λ (row : List ℕ). v ∷ row) (tree_at order groups sizes columns (at + 1) (lowered v es needs) (lowered (get_or sizes g 0) es rooms))) [] ++ tree_from order groups sizes columns at (v + 1) (suc to - (v + 1)) needs rooms
-      unfolding tree_at tree_from
-      more t e =
-          branches_more (λ (x : ℕ). get_or sizes x 0) (slot_cells columns) (tree (λ (x : ℕ). get_or sizes x 0) (slot_cells columns) (unset order groups (at + 1))) (get_or order at 0) v to needs rooms within
-          ∙ rw (here, ← column, e)
-
-      pub from_impossible : possible (get_or sizes g 0) es needs rooms v ≡ false
-          → tree_from order groups sizes columns at v (suc to - v) needs rooms ≡ tree_from order groups sizes columns at (v + 1) (suc to - (v + 1)) needs rooms
-      from_impossible e = more false e
-
-      pub from_possible : possible (get_or sizes g 0) es needs rooms v ≡ true
-          → tree_from order groups sizes columns at v (suc to - v) needs rooms
-          ≡ map (λ (row : List ℕ). v ∷ row) (tree_at order groups sizes columns (at + 1) (lowered v es needs) (lowered (get_or sizes g 0) es rooms)) ++ tree_from order groups sizes columns at (v + 1) (suc to - (v + 1)) needs rooms
-      from_possible e = more true e
-
-  pub from_wide : (v k : ℕ) → Each (λ row. length row ≡ length (unset order groups at)) (tree_from order groups sizes columns at v k needs rooms)
-  unfolding tree_from
-  from_wide v k =
-      rw (ap length (unset_more h))
-      (branches_wide (λ (x : ℕ). get_or sizes x 0) (slot_cells columns) (tree (λ (x : ℕ). get_or sizes x 0) (slot_cells columns) (unset order groups (at + 1))) (length (unset order groups (at + 1)))
-      (tree_wide (λ (x : ℕ). get_or sizes x 0) (slot_cells columns) (unset order groups (at + 1))) (get_or order at 0) v k needs rooms)

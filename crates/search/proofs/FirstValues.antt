@@ -18,7 +18,7 @@ use Rattle.search.proofs.Branches.{branch}
 
 module _ {order : List ℕ} {groups equations : ℕ} {sizes columns : List ℕ} {at g : ℕ} (here : Group order groups equations sizes columns at g) (needs rooms : List ℕ) where
   abbrev one : ℕ → List (List ℕ)
-  one = branch (λ (x : ℕ). get_or sizes x 0) (slot_cells columns) (tree (λ (x : ℕ). get_or sizes x 0) (slot_cells columns) (unset order groups (at + 1))) (get_or order at 0) 0 0 needs rooms
+  one = branch (λ (x : ℕ). get_or sizes x 0) (slot_cells columns) (tree (λ (x : ℕ). get_or sizes x 0) (slot_cells columns) (unset order groups (at + 1))) (get_or order at 0) needs rooms
 
   module _ (low : ℕ) where
     pub values_none : tree_from order groups sizes columns at low (low - low) needs rooms ≡ []
