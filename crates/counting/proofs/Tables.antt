@@ -1,8 +1,8 @@
 -- The table of states: with tags of earlier walks alone it is right; what it holds of a state is known of it; marks that grow leave it right; and so does a state
 -- kept in it once it is known, whatever stood at its place. Rests on UnderwayStates and WalkedRows. Assumes nothing.
-use mathlib.Core.Path.{◌≡◌, refl, sym, ap, ◌∙◌}
+use mathlib.Core.Path.{◌≡◌, sym, ap, ◌∙◌}
 use mathlib.Core.Logic.{inl, inr}
-use mathlib.Core.Bool.{Bool, true, false, cond, ◌&&◌}
+use mathlib.Core.Bool.{true, ◌&&◌}
 use mathlib.Core.List.{List}
 use Prim.Native.Nat.{ℕ, ◌+◌, ◌≤◌, ◌<◌}
 use native.Mathlib.Omega.{arith}

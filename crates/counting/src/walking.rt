@@ -83,27 +83,17 @@ pub fn walk(
     ensures right { StaysRight grouped.now order.now allowed.now first at unmet.old met.old told.old met.new told.new }
 {
     if at == grouped.groups {
-        return reach(
-            unmet,
-            grouped.equations,
-            allowed,
-            count,
-            &mut told.reached,
-        );
+        return reach(unmet, grouped.equations, allowed, count, &mut told.reached);
     }
     let Some(key) = key_of(grouped.equations, unmet, &grouped.rooms) else {
-        return walk_values(
-            grouped, order, allowed, first, at, count, unmet, told, met,
-        );
+        return walk_values(grouped, order, allowed, first, at, count, unmet, told, met);
     };
     let tag = (first + at * 1025 + count) as u32;
     let place = place_of(key, at, count);
     if let Some(found) = met.found_from(place, tag, key) {
         return found;
     }
-    let found = walk_values(
-        grouped, order, allowed, first, at, count, unmet, told, met,
-    );
+    let found = walk_values(grouped, order, allowed, first, at, count, unmet, told, met);
     met.keep_state(place, tag, key, found);
     found
 }

@@ -1,6 +1,6 @@
 -- `counting::walking::walk` and `walk_values`, which call each other, meet their contracts: a state that the table has is answered from it, and any other goes through every value
 -- of its group and is then kept. The loop's invariant: the values so far are tried. The measure falls with the unset groups. Rests on Tables and TriedValues. Assumes nothing.
-use Prim.Native.Nat.{ℕ, ◌+◌, ◌≤◌, ◌<◌}
+use Prim.Native.Nat.{ℕ, ◌+◌, ◌≤◌}
 use mathlib.Core.Bool.{true}
 use mathlib.Core.Path.{◌≡◌, refl, sym, ◌∙◌}
 use native.Mathlib.Omega.{arith}
