@@ -8,7 +8,7 @@ use mathlib.Core.List.{List, [], ◌∷◌}
 use Prim.Native.Nat.{ℕ, ◌+◌, ◌≤◌, ◌<◌}
 use native.Mathlib.Omega.{arith}
 use lib.Dec.{eqb, ltb}
-use lib.ListN.{length, get_or, set, take}
+use lib.ListN.{length, get_or}
 use borrow.Author.Tests.{eqb-true, eqb-false, eq-eqb, ne_eqb, ltb-true, lt-ltb, not-true}
 use Rattle.lists.specs.Lists.{range, bit, any, count, keep, has}
 use Rattle.lists.proofs.Tests.{Decided, decided, clash, same_test, and_left, and_right}
@@ -39,11 +39,6 @@ before_zero b c d h = eqb-true (cell_of b d) 0 (kept_passes (is_zero b) (range 0
 -- what the loop over the zeros has come to before the cell c: the zeros before it are flooded, and so many of them were first ones
 abbrev pub FloodedTo : (ℕ → List ℕ) → List ℕ → ℕ → List ℕ → ℕ → Type 0
 FloodedTo near b c position found = (position ≡ flooded near b c) × (found ≡ count (is_first near b) (range 0 c))
-
--- the list that the loop lends to the flood, of one cell
-pub one_listed : (from : List ℕ) (c : ℕ) → length from ≡ 1024 → take 1 (set from 0 c) ≡ c ∷ []
-one_listed [] c h = absurd (omega arith)
-one_listed (x ∷ from) c h = refl
 
 module _ (near : ℕ → List ℕ) (b : List ℕ) (ok : Accepted near b) (few : (c : ℕ) → c < length b → length (near c) ≤ 8) where
   -- ---- one cell after another

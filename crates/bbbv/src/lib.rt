@@ -3,7 +3,7 @@
 #![tactic(auto)]
 
 ghost use Rattle.std.specs.Prelude.{◌≡◌, ℕ, Ok, length};
-ghost use Rattle.grid.specs.Window.{neighbours, neighbours_on, Board};
+ghost use Rattle.grid.specs.Window.{neighbours_on, Board};
 ghost use Rattle.fitting.specs.Boards.{Accepted};
 ghost use Rattle.bbbv.specs.Openings.{all_closed, openings, bbbv};
 ghost use Rattle.bbbv.specs.Groups.{IsBbbv};
@@ -15,28 +15,18 @@ use grid::window::Size;
 use refusals::{Refusal, test_bbbv};
 
 // The openings: a zero that is still closed is the first of its opening, which is flooded.
-fn count_openings(
-    edgeless: bool,
-    rows: usize,
-    columns: usize,
-    cells: &[u8],
-    position: &mut [u8],
-) -> usize
-    requires board { Board cells.now rows columns × Board position.old rows columns }
-    requires accepted { Accepted (neighbours edgeless rows columns) cells.now }
+fn count_openings(size: Size, cells: &[u8], position: &mut [u8]) -> usize
+    requires board { Board cells.now size.rows size.columns × Board position.old size.rows size.columns }
+    requires accepted { Accepted (neighbours_on size) cells.now }
     requires position_value { position.old ≡ all_closed cells.now }
-    ensures value { result ≡ openings (neighbours edgeless rows columns) cells.now }
-    ensures position_after { position.new ≡ flooded (neighbours edgeless rows columns) cells.now (length cells.now) }
+    ensures value { result ≡ openings (neighbours_on size) cells.now }
+    ensures position_after { position.new ≡ flooded (neighbours_on size) cells.now (length cells.now) }
 {
-    let mut from = [0u16; 1024];
     let mut found = 0;
-    for c in 0..cells.len() {
-        if cells[c] == 0 {
-            if position[c] == 10 {
-                from[0] = c as u16;
-                refresh_board(edgeless, rows, columns, cells, position, &from, 1);
-                found += 1;
-            }
+    for (c, &cell) in cells.iter().enumerate() {
+        if cell == 0 && position[c] == 10 {
+            refresh_board(size, cells, position, &[c as u16]);
+            found += 1;
         }
     }
     found
@@ -48,42 +38,34 @@ fn count_closed_safe(cells: &[u8], position: &[u8]) -> usize
     ensures { result ≡ closed_safe cells.now position.now }
 {
     let mut found = 0;
-    for cell in 0..cells.len() {
-        if cells[cell] != 255 {
-            if position[cell] == 10 {
-                found += 1;
-            }
+    for (c, &cell) in cells.iter().enumerate() {
+        if cell != 255 && position[c] == 10 {
+            found += 1;
         }
     }
     found
 }
 
 // The 3BV of an accepted board, with a position to work in where every cell is closed.
-fn count_clicks(
-    edgeless: bool,
-    rows: usize,
-    columns: usize,
-    cells: &[u8],
-    position: &mut [u8],
-) -> usize
-    requires board { Board cells.now rows columns × Board position.old rows columns }
-    requires accepted { Accepted (neighbours edgeless rows columns) cells.now }
+fn count_clicks(size: Size, cells: &[u8], position: &mut [u8]) -> usize
+    requires board { Board cells.now size.rows size.columns × Board position.old size.rows size.columns }
+    requires accepted { Accepted (neighbours_on size) cells.now }
     requires position_value { position.old ≡ all_closed cells.now }
-    ensures { result ≡ bbbv (neighbours edgeless rows columns) cells.now }
+    ensures { result ≡ bbbv (neighbours_on size) cells.now }
 {
-    let openings = count_openings(edgeless, rows, columns, cells, position);
+    let openings = count_openings(size, cells, position);
     openings + count_closed_safe(cells, position)
 }
 
 // The same, with a position of its own.
-fn count_bbbv(edgeless: bool, rows: usize, columns: usize, cells: &[u8]) -> usize
-    requires board { Board cells.now rows columns }
-    requires accepted { Accepted (neighbours edgeless rows columns) cells.now }
-    ensures { result ≡ bbbv (neighbours edgeless rows columns) cells.now }
+fn count_bbbv(size: Size, cells: &[u8]) -> usize
+    requires board { Board cells.now size.rows size.columns }
+    requires accepted { Accepted (neighbours_on size) cells.now }
+    ensures { result ≡ bbbv (neighbours_on size) cells.now }
 {
     let mut position = [10u8; 1024];
     let n = cells.len();
-    count_clicks(edgeless, rows, columns, cells, &mut position[..n])
+    count_clicks(size, cells, &mut position[..n])
 }
 
 // cal_bbbv: refusals 1, 2, 3 and 5, then the 3BV.
@@ -92,5 +74,5 @@ pub fn cal_bbbv(size: Size, cells: &[u8]) -> Result<usize, Refusal>
     ensures by_index { (n : ℕ) → result ≡ Ok n → IsBbbv (neighbours_on size) cells.now n }
 {
     test_bbbv(size, cells)?;
-    Ok(count_bbbv(size.edgeless, size.rows, size.columns, cells))
+    Ok(count_bbbv(size, cells))
 }

@@ -1,6 +1,6 @@
 -- `cal_bbbv` meets its contract: a refusal by the tests is the call's, and a board that they accept is an accepted board of the mathematics; what a number tells
 -- follows from the definition alone. Rests on OnBoard and on the contracts of the calls. Assumes nothing.
-use mathlib.Core.Path.{◌≡◌, sym, ◌∙◌}
+use mathlib.Core.Path.{sym, ◌∙◌}
 use Rattle.std.proofs.lemmas.Result.{err_from_is_err_and}
 use Rattle.refusals.proofs.Accepted.{accepted_bbbv}
 use Rattle.refusals.proofs.Admitted.{bbbv_accepted}

@@ -1,7 +1,6 @@
 -- `bbbv::count_bbbv` meets its contract: a board has at most 1024 cells, so that the position has room for them, and each is closed there. Rests on ClosedArrays of
 -- the crate flood and on the contract of the call. Assumes nothing.
 use mathlib.Core.Path.{sym}
-use borrow.Author.Rules.{rules}
 use Rattle.flood.proofs.ClosedArrays.{few, front_long, front_closed, front_board}
 use Rattle.bbbv.proofs.count_bbbv.Goals as goal
 

@@ -1,7 +1,6 @@
 -- `bbbv::count_clicks` meets its contract: once all zeros are flooded, the safe cells that are closed are the lone ones. Rests on OnBoard and on the contracts of the
 -- calls. Assumes nothing.
 use native.Mathlib.Omega.{arith}
-use borrow.Author.Rules.{rules}
 use Rattle.bbbv.proofs.OnBoard.{counts_small, counted_bbbv}
 use Rattle.bbbv.proofs.count_clicks.Goals as goal
 

@@ -1,15 +1,8 @@
-use Prim.Native.Nat.{◌-◌, ◌≤◌, ◌<◌}
-use mathlib.Core.Path.{◌≡◌, refl}
-use mathlib.Core.Logic.{⊎_elim}
-use mathlib.Core.Bool.{true, false}
-use native.Mathlib.Omega.{arith}
-use lib.ListN.{length}
-use borrow.Author.Rules.{rules}
+use Prim.Native.Nat.{◌≤◌}
+use mathlib.Core.Path.{◌≡◌}
 use Rattle.lists.specs.Lists.{count, range}
-use Rattle.lists.proofs.Kept.{count_range_push}
-use Rattle.bbbv.specs.Flooded.{is_closed_safe, closed_safe}
-use Rattle.bbbv.proofs.Flooded.{closed_safe_counts, open_passes, mine_passes}
+use Rattle.bbbv.specs.Flooded.{is_closed_safe}
 use Rattle.bbbv.proofs.count_closed_safe.Given as goal
 
-abbrev pub invariant-loop-cell : goal.invariant-loop-cell
-invariant-loop-cell l = (l.found ≡ count (is_closed_safe l.cells l.position) (range 0 l.cell)) × (l.found ≤ l.cell) × (l.cell ≤ length l.cells)
+abbrev pub invariant-loop-c : goal.invariant-loop-c
+invariant-loop-c l = (l.found ≡ count (is_closed_safe l.cells l.position) (range 0 l.c)) × (l.found ≤ l.c)
