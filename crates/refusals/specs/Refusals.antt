@@ -24,8 +24,8 @@ Tested = Result ⊤ Refusal
 abbrev pub Accepted : Tested
 Accepted = Ok tt
 
--- the number that a caller sees: 0 where nothing is refused
-abbrev pub tested_number : Tested → ℕ
+-- the number that a caller sees of the tests' answer, and of a call's: 0 where nothing is refused
+abbrev pub tested_number : {A : Type 0} → Result A Refusal → ℕ
 tested_number (Ok _) = 0
 tested_number (Err r) = refusal_number r
 
