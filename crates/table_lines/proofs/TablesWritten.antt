@@ -10,9 +10,10 @@ use lib.Dec.{leb, ltb}
 use lib.ListN.{length, get_or, replicate}
 use lib.Seq.{sets, length-sets}
 use borrow.Author.Tests.{leb-true}
-use Rattle.std.specs.Prelude.{Ok, Err}
+use Rattle.std.specs.Prelude.{Result, Ok, Err}
 use Rattle.lists.specs.Lists.{range, joined}
 use Rattle.grid.specs.Window.{flat, neighbours}
+use Rattle.refusals.specs.declared.Refusal.{Refusal}
 use Rattle.refusals.specs.declared.Refusal.TheVariants as refusal
 use Rattle.refusals.specs.Refusals.{Tested}
 use Rattle.refusals.specs.Tests.{position_tested}
@@ -21,8 +22,7 @@ use Rattle.frontier.specs.Frontier.{frontier}
 use Rattle.groups.specs.Groups.{firsts}
 use Rattle.search.specs.Solutions.{solutions}
 use Rattle.tables.specs.declared.TableAnswer.{TableAnswer}
-use Rattle.tables.specs.declared.TableAnswer.TheVariants.{Refused, Listed}
-use Rattle.tables.specs.Tables.{TableSeen, table_seen, table_refused, table_of, block_asked, table_after_tests, cal_all_solution, row_at}
+use Rattle.tables.specs.Tables.{table_with, TableSeen, table_seen, table_refused, table_of, block_asked, table_after_tests, cal_all_solution, row_at}
 use Rattle.text.specs.declared.Text.{Text}
 use Rattle.text.specs.Text.{decimal, Wrote}
 use Rattle.text.proofs.Writing.{wrote_both}
@@ -57,7 +57,7 @@ pub listed_written : {before first second third fourth fifth sixth after : Text}
     → Wrote second third (32 ∷ 115 ∷ 111 ∷ 108 ∷ 117 ∷ 116 ∷ 105 ∷ 111 ∷ 110 ∷ 115 ∷ 32 ∷ []) → Wrote third fourth (decimal s)
     → Wrote fourth fifth (32 ∷ 114 ∷ 111 ∷ 119 ∷ 115 ∷ []) → Wrote fifth sixth (rows_text (rows_of table g s))
     → Wrote sixth after (93 ∷ [])
-    → Wrote before after (table_text (Listed s g) table)
+    → Wrote before after (table_text (table_with s g) table)
 unfolding table_text
 listed_written table g s groups many solved few listed rows bracket =
     wrote_both (wrote_both (wrote_both groups many) (wrote_both (wrote_both solved few) (wrote_both listed rows))) bracket
@@ -69,7 +69,7 @@ unfolding table_of
 table_within b t = go (leb (length (solutions b) * length (firsts b)) (length t)) refl
   where
     listed : TableSeen
-    listed = table_seen (Listed (length (solutions b)) (length (firsts b))) (sets t 0 (joined (solutions b)))
+    listed = table_seen (table_with (length (solutions b)) (length (firsts b))) (sets t 0 (joined (solutions b)))
 
     go : (c : Bool) → leb (length (solutions b) * length (firsts b)) (length t) ≡ c
         → RowsWithin (cond c listed (table_refused refusal.Table t)).answer (cond c listed (table_refused refusal.Table t)).table
@@ -99,12 +99,12 @@ module _ (rows columns : ℕ) (p : List ℕ) (n : ℕ) (t : List ℕ) where
       go (Ok _) = asked_within (frontier (neighbours flat rows columns) p) n t
       go (Err r) = omega arith
 
-  pub seen_within : {a : TableAnswer} {after : List ℕ} → table_seen a after ≡ cal_all_solution flat rows columns p n t → RowsWithin a after
+  pub seen_within : {a : Result TableAnswer Refusal} {after : List ℕ} → table_seen a after ≡ cal_all_solution flat rows columns p n t → RowsWithin a after
   seen_within e = subst (λ (w : TableSeen). RowsWithin w.answer w.table) (sym e) call_within
 
 -- ---- what the caller sees
 
-pub block_written : {before after : Text} (rows columns : ℕ) (p : List ℕ) (k : ℕ) {a : TableAnswer} {table : List ℕ}
+pub block_written : {before after : Text} (rows columns : ℕ) (p : List ℕ) (k : ℕ) {a : Result TableAnswer Refusal} {table : List ℕ}
     → table_seen a table ≡ cal_all_solution flat rows columns p k (replicate 16384 0) → Wrote before after (table_text a table)
     → Wrote before after (block_table rows columns p k)
 unfolding block_table

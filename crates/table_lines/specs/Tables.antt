@@ -50,14 +50,14 @@ abbrev pub no_table_text : ℕ → List ℕ
 no_table_text n = (32 ∷ 91 ∷ refused_text n) ++ (93 ∷ [])
 
 -- ` [groups 3 solutions 2 rows 0 1 0 / 1 0 1]`
-unfoldable pub table_text : TableAnswer → List ℕ → List ℕ
+unfoldable pub table_text : Result TableAnswer Refusal → List ℕ → List ℕ
 table_text a table =
     cond (eqb (table_number a) 0)
     ((32 ∷ 91 ∷ (groups_text (table_groups a) ++ (solutions_text (table_solutions a) ++ listed_text (rows_of table (table_groups a) (table_solutions a))))) ++ (93 ∷ []))
     (no_table_text (table_number a))
 
 -- the rows that are answered stand inside the table
-abbrev pub RowsWithin : TableAnswer → List ℕ → Type 0
+abbrev pub RowsWithin : Result TableAnswer Refusal → List ℕ → Type 0
 RowsWithin a table = table_solutions a * table_groups a ≤ length table
 
 -- what the caller sees, as text

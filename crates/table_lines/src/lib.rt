@@ -6,14 +6,13 @@
 ghost use Rattle.std.specs.Prelude.{map, ◌+◌, ◌-◌, ◌*◌, ◌≤◌, ◌<◌, length};
 ghost use Rattle.lists.specs.Lists.{range, joined};
 ghost use Rattle.refusals.specs.Refusals.{refusal_number};
-ghost use Rattle.tables.specs.declared.TableAnswer.TheVariants.{Listed};
-ghost use Rattle.tables.specs.Tables.{row_at};
+ghost use Rattle.tables.specs.Tables.{row_at, table_with};
 ghost use Rattle.text.specs.Text.{Wrote};
 ghost use Rattle.show.specs.Cells.{cells_text};
 ghost use Rattle.table_lines.specs.Tables.{next_row, rows_of, rows_text, no_table_text, table_text, RowsWithin, block_table, tables_text, table_line};
 
 use frontier::refresh_matrixs;
-use grid::window::{FLAT, Size};
+use grid::window::Size;
 use lines::{put_unreadable, read_line};
 use refusals::Refusal;
 use show::{put_cells, put_refused};
@@ -63,7 +62,7 @@ fn put_rows(out: &mut Text<'_>, table: &[u8], groups: usize, solutions: usize)
 // ` [groups 3 solutions 2 rows 0 1 0 / 1 0 1]`
 fn put_listed(out: &mut Text<'_>, table: &[u8], groups: usize, solutions: usize)
     requires { solutions * groups ≤ length table.now }
-    ensures { Wrote out.old out.new (table_text (Listed solutions groups) table.now) }
+    ensures { Wrote out.old out.new (table_text (table_with solutions groups) table.now) }
 {
     out.bytes(b" [groups ");
     out.number(groups);
@@ -84,13 +83,13 @@ fn put_no_table(out: &mut Text<'_>, refusal: Refusal)
 }
 
 // What the caller sees of a block.
-fn put_table(out: &mut Text<'_>, answer: TableAnswer, table: &[u8])
+fn put_table(out: &mut Text<'_>, answer: Result<TableAnswer, Refusal>, table: &[u8])
     requires { RowsWithin answer table.now }
     ensures { Wrote out.old out.new (table_text answer table.now) }
 {
     match answer {
-        TableAnswer::Refused(refusal) => put_no_table(out, refusal),
-        TableAnswer::Listed(solutions, groups) => put_listed(out, table, groups, solutions),
+        Err(refusal) => put_no_table(out, refusal),
+        Ok(answer) => put_listed(out, table, answer.groups, answer.solutions),
     }
 }
 
@@ -99,7 +98,7 @@ fn put_block(out: &mut Text<'_>, rows: usize, columns: usize, position: &[u8], k
     ensures { Wrote out.old out.new (block_table rows columns position.now k) }
 {
     let mut table = [0u8; 16384];
-    let answer = cal_all_solution(FLAT, rows, columns, position, k, &mut table);
+    let answer = cal_all_solution(Size::flat(rows, columns), position, k, &mut table);
     put_table(out, answer, &table);
 }
 

@@ -1,7 +1,7 @@
 -- What specs/Listed.antt says of cal_all_solution, from the equation that the call ensures. The call refuses, or the front of the table is the rows of `solutions`, which
 -- are read back from it one by one: so what holds of these rows holds of the table. Rests on ListedSolutions and GroupRows of the crate search, and RowsOfOneWidth.
 -- Assumes nothing.
-use Rattle.std.specs.Prelude.{Ok, Err}
+use Rattle.std.specs.Prelude.{Result, Ok, Err}
 use mathlib.Core.Path.{◌≡◌, refl, sym, ap, ◌∙◌}
 use mathlib.Core.Logic.{◌⊎◌, inl, inr}
 use mathlib.Core.Bool.{Bool, true, false, ◌&&◌}
@@ -33,10 +33,9 @@ use Rattle.search.specs.Solutions.{solves, solutions}
 use Rattle.search.proofs.Vectors.{within_sizes}
 use Rattle.search.proofs.ListedSolutions.{solutions_once, solutions_in_order}
 use Rattle.search.proofs.GroupRows.{row_listed, listed_row}
-use Rattle.tables.specs.Tables.{table_number, table_solutions, table_groups, TableSeen, table_seen, row_at, table_refused, table_of, block_asked, cal_all_solution}
+use Rattle.tables.specs.Tables.{table_with, table_number, table_solutions, table_groups, TableSeen, table_seen, row_at, table_refused, table_of, block_asked, cal_all_solution}
 use Rattle.tables.specs.Listed.{asked_block, Accepts, ListedTable, TableCall}
 use Rattle.tables.specs.declared.TableAnswer.{TableAnswer}
-use Rattle.tables.specs.declared.TableAnswer.TheVariants.{Refused, Listed}
 use Rattle.tables.proofs.RowsOfOneWidth.{row_back, behind_kept, places_differ}
 use Rattle.refusals.specs.Refusals.{Tested, Accepted}
 
@@ -99,7 +98,7 @@ module _ (edgeless : Bool) (rows columns : ℕ) (p : List ℕ) (k : ℕ) (t : Li
 
   -- the call refuses, with reason, or lists the block's solutions
   abbrev listing : TableSeen
-  listing = table_seen (Listed (length (solutions asked)) (length (firsts asked))) (sets t 0 (joined (solutions asked)))
+  listing = table_seen (table_with (length (solutions asked)) (length (firsts asked))) (sets t 0 (joined (solutions asked)))
 
   abbrev Outcome : Type 0
   Outcome =
@@ -122,7 +121,7 @@ module _ (edgeless : Bool) (rows columns : ℕ) (p : List ℕ) (k : ℕ) (t : Li
       first (Err x) e = inl (x, (λ h. not_both (position_tested rows columns p) x h.tests e), rw e)
       first (Ok _) e = next e (decided (ltb k (length bs))) (decided (leb area (length t)))
 
-  module _ (r : TableAnswer) (t' : List ℕ) (call : table_seen r t' ≡ cal_all_solution edgeless rows columns p k t) where
+  module _ (r : Result TableAnswer Refusal) (t' : List ℕ) (call : table_seen r t' ≡ cal_all_solution edgeless rows columns p k t) where
     pub table_call : TableCall edgeless rows columns p k t (table_number r) (table_solutions r) (table_groups r) t'
     table_call = go outcome
       where

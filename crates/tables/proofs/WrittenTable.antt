@@ -25,8 +25,8 @@ use Rattle.search.proofs.Orders.{placed_by_group}
 use Rattle.search.proofs.ReadingGroups.{groups_read, equations_read, groups_few, grouped_state}
 use Rattle.search.proofs.ListedSolutions.{negative_none, weighed_each_once}
 use Rattle.search.proofs.TreeSolutions.{searched, row_long, tree_solutions, tree_solutions_length, weighed_front}
-use Rattle.tables.specs.Tables.{table_seen, table_of}
-use Rattle.tables.specs.declared.TableAnswer.TheVariants.{Refused, Listed}
+use Rattle.tables.specs.Tables.{table_with, table_seen, table_of}
+use Rattle.std.specs.Prelude.{Err}
 use Rattle.tables.proofs.WeighedGroups.{weighed_by_columns, weighed_few, weighed_front_once, weighed_ordered}
 
 -- the rows of the tree as they are written: by group, over the values that stood there
@@ -75,10 +75,10 @@ module _ (b : Block) (k : Combinable b) {r : Grouped} (is : r ≡ grouped b) whe
   table_state = rw is (grouped_state b k)
 
   -- a negative remainder
-  pub table_negative : (t : List ℕ) → r.negative ≡ true → table_seen (Listed 0 r.groups) t ≡ table_of b t
+  pub table_negative : (t : List ℕ) → r.negative ≡ true → table_seen (table_with 0 r.groups) t ≡ table_of b t
   unfolding table_of
   table_negative t negative =
-      rw (negative_none b (rw is at negative), zero-mul, le-leb 0 (length t) (omega arith)) (ap (λ (n : ℕ). table_seen (Listed 0 n) t) groups_are)
+      rw (negative_none b (rw is at negative), zero-mul, le-leb 0 (length t) (omega arith)) (ap (λ (n : ℕ). table_seen (table_with 0 n) t) groups_are)
 
   module _ {order : List ℕ} (by : order ≡ pad 1024 0 (by_weight (λ (g : ℕ). get_or r.columns (g * 8) 0) r.groups r.equations)) where
     order_is : order ≡ pad 1024 0 (weighed b)
@@ -104,13 +104,13 @@ module _ (b : Block) (k : Combinable b) {r : Grouped} (is : r ≡ grouped b) whe
       -- the rows have room
       pub table_listed : (t values : List ℕ) → length values ≡ 1024 → leb (row_count r order * r.groups) (length t) ≡ true
           → {n : ℕ} → n ≡ 0 + row_count r order → {after : List ℕ} → after ≡ sets t (0 * r.groups) (joined (written_rows r order values))
-          → table_seen (Listed n r.groups) after ≡ table_of b t
+          → table_seen (table_with n r.groups) after ≡ table_of b t
       unfolding table_of
       table_listed t values whole h {n} counted {after} wrote =
           let many : n ≡ length (solutions b) = omega (arith, counted, count_is) in
           rw (sym same_room, h) (rw (many, groups_are, wrote, zero-mul, rows_are values whole))
 
       -- they have none
-      pub table_refused_lem : (t : List ℕ) → leb (row_count r order * r.groups) (length t) ≡ false → table_seen (Refused refusal.Table) t ≡ table_of b t
+      pub table_refused_lem : (t : List ℕ) → leb (row_count r order * r.groups) (length t) ≡ false → table_seen (Err refusal.Table) t ≡ table_of b t
       unfolding table_of
       table_refused_lem t h = rw (sym same_room, h)

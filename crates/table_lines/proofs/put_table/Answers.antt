@@ -4,11 +4,11 @@ use Rattle.table_lines.specs.Tables.{table_text}
 use Rattle.table_lines.proofs.put_table.Goals as goal
 
 pub put_listed-requires : goal.put_listed-requires
-put_listed-requires c = rw c.in-Listed.is at c.requires
+put_listed-requires c = rw c.in-Ok.is at c.requires
 
-pub returns-in-Refused : goal.returns-in-Refused
+pub returns-in-Err : goal.returns-in-Err
 unfolding table_text
-returns-in-Refused c = rw (c.in-Refused.is, refusal_not_zero) c.put_no_table.ensures
+returns-in-Err c = rw (c.in-Err.is, refusal_not_zero) c.put_no_table.ensures
 
-pub returns-in-Listed : goal.returns-in-Listed
-returns-in-Listed c = rw c.in-Listed.is c.put_listed.ensures
+pub returns-in-Ok : goal.returns-in-Ok
+returns-in-Ok c = rw c.in-Ok.is c.put_listed.ensures

@@ -5,15 +5,14 @@ use mathlib.Core.Path.{ap, ◌∙◌}
 use native.Mathlib.Omega.{arith}
 use lib.Dec.{ltb}
 use lib.ListN.{length-replicate}
-use borrow.Author.Rules.{rules}
 use Rattle.tables.proofs.TableRoom.{most_small, left_where_room}
 use Rattle.tables.proofs.rows_fit.Goals as goal
 
 pub overflow_add-most : goal.overflow_add-most
-overflow_add-most c = omega (arith, most_small c.args.room c.args.grouped.groups c.requires.groups_nonzero.1)
+overflow_add-most c = omega (arith, most_small c.args.room c.args.grouped.now.groups c.requires.groups_nonzero.1)
 
 pub spend-left-requires : goal.spend-left-requires
 spend-left-requires c = record { ordered = c.requires.ordered; state = c.requires.state; at_le_groups = (omega arith, length-replicate {A = ℕ} 1024 0, omega arith) }
 
 pub returns : goal.returns
-returns c = ap (ltb 0) c.spend-left.ensures.value ∙ left_where_room c.args.room c.args.grouped.groups _ c.requires.groups_nonzero.0
+returns c = ap (ltb 0) c.spend-left.ensures.value ∙ left_where_room c.args.room c.args.grouped.now.groups _ c.requires.groups_nonzero.0
