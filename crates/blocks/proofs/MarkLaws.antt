@@ -2,7 +2,7 @@
 -- on `get_or-set_other`. Assumes nothing.
 use mathlib.Core.Path.{◌≡◌, refl, sym, ap, ◌∙◌}
 use mathlib.Core.Logic.{inl, inr}
-use mathlib.Core.Bool.{Bool, true, false, ◌||◌, or-false, or-true}
+use mathlib.Core.Bool.{Bool, true, ◌||◌, or-false, or-true}
 use mathlib.Core.List.{List, [], ◌∷◌, ◌++◌}
 use Prim.Native.Nat.{ℕ, ◌+◌, ◌<◌}
 use native.Mathlib.Omega.{arith}
@@ -74,12 +74,3 @@ module _ (list : UpToEight) (on : OnBoard list) (whole : length list.cells ≡ 8
   pub list_below : x < 1024
   list_below =
       rw at (ltb-true (get_or list.cells k 0) 1024 (counted_passes list.cells list.len k 0 before (omega (arith, on.few)) (λ c. ltb c 1024) on.below))
-
--- ---- a search through cells
-
-module _ {r k : List ℕ} (f : ℕ → Bool) (c : ℕ) (more : k ≡ c ∷ r) where
-  pub search_here : f c ≡ true → any f k ≡ true
-  search_here h = ap (any f) more ∙ rw h
-
-  pub search_next : f c ≡ false → any f k ≡ any f r
-  search_next h = ap (any f) more ∙ rw h

@@ -15,7 +15,7 @@ use Rattle.lists.proofs.Arrays.{pad_nil, length_pad}
 use Rattle.lists.proofs.Joined.{map_ext, length_joined, pad_sets}
 use Rattle.blocks.specs.Blocks.{BlockEquation, Block}
 use Rattle.blocks.specs.BlockSets.{slot_cells}
-use Rattle.blocks.specs.Places.{Cells, cells_from, equations_from, block_from}
+use Rattle.blocks.specs.Places.{cells_from, equations_from, block_from}
 use Rattle.blocks.specs.declared.Bounds.{Bounds}
 use Rattle.groups.specs.Groups.{column, alike, add_firsts, firsts, groups, group_of_cell, sizes}
 use Rattle.groups.specs.Grouping.{Combinable, grouped}
@@ -23,7 +23,7 @@ use Rattle.groups.specs.Combining.{ColumnsAre, column_in, alike_by, GroupsAre}
 use Rattle.groups.specs.declared.Grouped.{Grouped}
 use Rattle.groups.proofs.FirstsOfClasses.{same_equivalence, first_met_lem, firsts_of}
 use Rattle.groups.proofs.GroupLaws.{alike_equivalence}
-use Rattle.groups.proofs.GrownGroups.{groups_firsts, groups_few, groups_cells, groups_ext}
+use Rattle.groups.proofs.GrownGroups.{groups_firsts, groups_few, groups_below, groups_ext}
 use Rattle.groups.proofs.PassedEquations.{length_equations, need_of, room_of, is_negative}
 use Rattle.groups.proofs.BlockColumns.{block_cells, block_equations, column_is, columns_few, alike_agrees}
 
@@ -51,8 +51,11 @@ module _ (cells slots rests : List ℕ) (bounds : Bounds) (h : Combinable (block
         groups_ext (λ c. ltb c 1024) (same_equivalence (slot_cells columns)) (alike b) (alike_agrees cells slots rests bounds h columns are) b.cells h.below
         (rw (← block_cells cells slots rests bounds) at r)
 
-    pub first_cells_on_board : Cells first_cells n
-    first_cells_on_board = groups_cells (alike_equivalence b) groups_are h.few_cells h.below
+    pub first_cells_below : all (λ c. ltb c 1024) (take n first_cells) ≡ true
+    first_cells_below = groups_below (alike_equivalence b) groups_are h.below
+
+    pub few_groups : n ≤ 1024
+    few_groups = omega (arith, groups_few (alike_equivalence b) groups_are, h.few_cells)
 
     abbrev fs : List ℕ
     fs = add_firsts (alike b) [] b.cells

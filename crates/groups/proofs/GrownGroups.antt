@@ -9,10 +9,10 @@ use native.Mathlib.Decide.{dec_lt}
 use native.Mathlib.Omega.{arith}
 use lib.Dec.{leb, ltb}
 use lib.ListN.{length, get_or, set, take, replicate, length-append, length-map, get_or-eq_default}
-use borrow.Author.Tests.{leb-true, ltb-true, lt-ltb, le-ltb}
+use borrow.Author.Tests.{leb-true, lt-ltb, le-ltb}
 use Rattle.lists.specs.Lists.{range, count, any, all, has, first_place, pad}
 use Rattle.lists.proofs.Tests.{Decided, decided}
-use Rattle.lists.proofs.All.{all_has}
+use Rattle.lists.proofs.All.{all_has, has_all}
 use Rattle.lists.proofs.Members.{has_append, get_d_has}
 use Rattle.lists.proofs.Counts.{count_append, length_keep}
 use Rattle.lists.proofs.FirstPlaces.{first_within_any, first_place_within, first_place_front, first_place_behind, first_place_ext}
@@ -22,7 +22,6 @@ use Rattle.lists.proofs.Kept.{keep_ext}
 use Rattle.lists.proofs.Rearranged.{length_range}
 use Rattle.lists.proofs.Unions.{last_own, last_other}
 use Rattle.lists.proofs.PlacesAndRanges.{map_read, set_mapped, range_read}
-use Rattle.blocks.specs.Places.{Cells}
 use Rattle.groups.specs.Groups.{add_firsts}
 use Rattle.groups.specs.Combining.{GroupsAre}
 use Rattle.groups.proofs.FirstsOfClasses.{Equivalence, FirstOf, first_met_lem, firsts_of}
@@ -55,16 +54,13 @@ module _ {like : ℕ → ℕ → Bool} (same : Equivalence like) {cells : List �
   pub groups_few : n ≤ length cells
   groups_few = omega (arith, r.counted, found.few)
 
+  pub groups_long : length cells ≤ 1024 → length firsts ≡ 1024
+  groups_long few = rw r.first_cells (length_pad 1024 0 fs (omega (arith, found.few)))
+
   -- the first cells are on the board
-  pub groups_cells : length cells ≤ 1024 → all (λ c. ltb c 1024) cells ≡ true → Cells firsts n
-  groups_cells few below =
-      record {
-        whole = rw r.first_cells (length_pad 1024 0 fs (omega (arith, found.few)));
-        few = omega (arith, groups_few);
-        below = λ i u.
-            let inside = first_met_lem like same found (get_or fs i 0) (get_d_has fs i 0 (omega (arith, r.counted))) in
-            rw (r.first_cells, pad_read 1024 0 fs i) (ltb-true (get_or fs i 0) 1024 (all_has (λ c. ltb c 1024) cells below (get_or fs i 0) inside));
-      }
+  pub groups_below : all (λ c. ltb c 1024) cells ≡ true → all (λ c. ltb c 1024) (take n firsts) ≡ true
+  groups_below below =
+      rw groups_firsts (has_all (λ c. ltb c 1024) fs (λ c e. all_has (λ d. ltb d 1024) cells below c (first_met_lem like same found c e)))
 
   -- a group is no larger than in the end
   pub groups_small : (rest : List ℕ) → all (λ c. leb (count (like c) (cells ++ rest)) 8) (cells ++ rest) ≡ true → (g : ℕ) → get_or sizes g 0 ≤ 8

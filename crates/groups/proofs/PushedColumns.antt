@@ -1,6 +1,6 @@
--- Columns of cells in eight slots for each cell. A number put behind a column; the place of an equation put behind the columns of its cells, one cell after
--- another; and the columns in the equations passed so far, with those of one equation more. As a cell stands in an equation once, its place is put behind
--- its column once. Rests on the laws of slots. Assumes nothing.
+-- Columns of cells in eight slots for each cell: the place of an equation put behind the columns of its cells, one cell after another; and the columns in the
+-- equations passed so far, with those of one equation more. As a cell stands in an equation once, its place is put behind its column once. Rests on the laws
+-- of slots. Assumes nothing.
 use mathlib.Core.Path.{◌≡◌, refl, sym, ap, ◌∙◌}
 use mathlib.Core.Logic.{inl, inr, ◌≢◌}
 use mathlib.Core.Bool.{Bool, true, false, cond}
@@ -9,7 +9,7 @@ use Prim.Native.Nat.{ℕ, ◌+◌, ◌*◌, ◌≤◌, ◌<◌}
 use native.Mathlib.Numerals.{add-one}
 use native.Mathlib.Omega.{arith}
 use lib.Dec.{ltb, eqb}
-use lib.ListN.{length, get_or, take, set, replicate, length-append, length-replicate}
+use lib.ListN.{length, get_or, take, replicate, length-append, length-replicate}
 use lib.Seq.{sets, take-suc, length-sets}
 use borrow.Author.Tests.{ltb-true, lt-ltb, eqb-true, eqb-false}
 use Rattle.lists.specs.Lists.{range, all, has, nodup, pad}
@@ -17,26 +17,12 @@ use Rattle.lists.proofs.Tests.{Decided, decided}
 use Rattle.lists.proofs.All.{all_at, all_push, has_all, all_has}
 use Rattle.lists.proofs.Members.{kept_has, range_in}
 use Rattle.lists.proofs.Kept.{keep_range_push, keep_range_pass}
-use Rattle.lists.proofs.Arrays.{pad_push, pad_take}
 use Rattle.lists.proofs.Unions.{last_own, last_other}
 use Rattle.lists.proofs.PlacesAndRanges.{nodup_before, keep_range_within}
-use Rattle.grid.specs.Window.{listed}
-use Rattle.grid.specs.declared.window.UpToEight.{UpToEight}
 use Rattle.blocks.specs.BlockSets.{slot_cells}
 use Rattle.blocks.specs.Places.{Slots}
 use Rattle.blocks.proofs.SlotLaws.{slots_filled, put_there, put_elsewhere}
 use Rattle.groups.specs.Combining.{ColumnsAre, column_in, column_with}
-
--- ---- a number put behind a list of at most eight
-
-module _ (list : UpToEight) (l : List ℕ) (is : list ≡ listed l) (x : ℕ) (room : length l < 8) where
-  pub pushed_few : list.len < 8
-  pushed_few = rw is room
-
-  pub pushed_list : take (list.len + 1) (set list.cells list.len x) ≡ l ++ (x ∷ [])
-  pushed_list =
-      let long : length l + 1 ≡ length (l ++ (x ∷ [])) = sym (length-append l (x ∷ [])) in
-      rw (is, pad_push 8 0 l x room, long) (pad_take 8 0 (l ++ (x ∷ [])))
 
 -- ---- the place of an equation put behind the columns of its cells
 

@@ -3,12 +3,13 @@
 // by group: its size, its column; and by equation: what it needs, and how many cells it has.
 #![tactic(auto)]
 
-ghost use Rattle.std.specs.Prelude.{◌≡◌, true, [], ◌∷◌, ◌++◌, map, ℕ, ◌-◌, ◌*◌, ◌≤◌, ◌<◌, leb, ltb, length, take, replicate};
+ghost use Rattle.std.specs.Prelude.{◌≡◌, true, [], ◌∷◌, ◌++◌, map, ℕ, ◌-◌, ◌*◌, ◌≤◌, ◌<◌, leb, ltb, length, replicate, unwrap_or, IfSome};
+ghost use Rattle.std.specs.List.{list_any};
 ghost use Rattle.std.proofs.lemmas.List.Edits.{sets};
 ghost use Rattle.lists.specs.Lists.{any, all, count, nodup, first_place, joined, pad};
 ghost use Rattle.blocks.specs.Blocks.{BlockEquation};
 ghost use Rattle.blocks.specs.BlockSets.{slot_cells};
-ghost use Rattle.blocks.specs.Places.{cells_in, OnBoard, Slots, Cells, Stands, cells_from, equations_from, block_between};
+ghost use Rattle.blocks.specs.Places.{cells_in, OnBoard, Slots, Stands, equations_between, block_between};
 ghost use Rattle.groups.specs.Grouping.{Combinable, grouped};
 ghost use Rattle.groups.specs.Combining.{ColumnsAre, column_in, column_with, alike_by, GroupsAre};
 
@@ -39,18 +40,9 @@ fn push_slot(slots: &mut [u16; 8192], place: usize, number: u16)
     requires { (length slots.old ≡ 8192) × (place < 1024) × (length (slot_cells slots.old place) < 8) }
     ensures { slots.new ≡ sets slots.old (place * 8) (pad 8 65535 (slot_cells slots.old place ++ (number ∷ []))) }
 {
-    let list = slots_at(slots, place);
-    let mut cells = list.cells;
-    let len = list.len;
-    cells[len] = number;
-    put_slots(
-        slots,
-        place,
-        UpToEight {
-            cells,
-            len: len + 1,
-        },
-    );
+    let mut list = slots_at(slots, place);
+    list.push(number);
+    put_slots(slots, place, list);
 }
 
 // Puts the place of an equation behind the columns of its cells.
@@ -60,22 +52,21 @@ fn push_equation(list: UpToEight, place: u16, columns: &mut [u16; 8192])
     requires list_value { all (λ c. ltb (length (slot_cells columns.old c)) 8) (cells_in list) ≡ true }
     ensures { ColumnsAre columns.new (column_with columns.old (cells_in list) place) }
 {
-    let cells = list.cells;
-    let len = list.len;
-    for k in 0..len {
-        push_slot(columns, wide(cells[k]), place);
+    for &cell in list.as_slice() {
+        push_slot(columns, wide(cell), place);
     }
 }
 
-// The columns of the cells of equations between two places, by cell.
-fn fill_columns(slots: &[u16; 8192], first: usize, end: usize, columns: &mut [u16; 8192])
-    requires slots { Slots slots.now end × (first ≤ end) × (columns.old ≡ replicate 8192 65535) }
-    requires by_index { (e : ℕ) → first ≤ e → e < end → nodup (slot_cells slots.now e) ≡ true }
-    requires by_index_2 { (c : ℕ) → length (column_in slots.now first (end - first) c) ≤ 8 }
-    ensures { ColumnsAre columns.new (column_in slots.now first (end - first)) }
+// The columns of the cells of a block, by cell.
+fn fill_columns(set: &BlockSet, bounds: Bounds, columns: &mut [u16; 8192])
+    requires slots { Slots set.now.slots bounds.end_equation × (bounds.first_equation ≤ bounds.end_equation) × (columns.old ≡ replicate 8192 65535) }
+    requires by_index { (e : ℕ) → bounds.first_equation ≤ e → e < bounds.end_equation → nodup (slot_cells set.now.slots e) ≡ true }
+    requires by_index_2 { (c : ℕ) → length (column_in set.now.slots bounds.first_equation (bounds.end_equation - bounds.first_equation) c) ≤ 8 }
+    ensures { ColumnsAre columns.new (column_in set.now.slots bounds.first_equation (bounds.end_equation - bounds.first_equation)) }
 {
-    for e in first..end {
-        push_equation(slots_at(slots, e), (e - first) as u16, columns);
+    let first = bounds.first_equation;
+    for e in first..bounds.end_equation {
+        push_equation(slots_at(&set.slots, e), (e - first) as u16, columns);
     }
 }
 
@@ -98,84 +89,79 @@ fn same_columns(columns: &[u16; 8192], a: usize, b: usize) -> bool
     true
 }
 
-// The place of the first of n cells whose column equals that of a cell; n where there is none.
-fn first_alike(columns: &[u16; 8192], firsts: &[u16; 1024], n: usize, cell: usize) -> usize
-    requires { (length columns.now ≡ 8192) × Cells firsts.now n × (cell < 1024) }
-    ensures { result ≡ first_place (alike_by columns.now cell) (take n firsts.now) }
+// The place of the first of some cells whose column equals that of a cell.
+fn first_alike(columns: &[u16; 8192], firsts: &[u16], cell: usize) -> Option<usize>
+    requires { (length columns.now ≡ 8192) × (all (λ c. ltb c 1024) firsts.now ≡ true) × (cell < 1024) }
+    ensures place { unwrap_or result (length firsts.now) ≡ first_place (alike_by columns.now cell) firsts.now }
+    ensures inside { IfSome result (λ g. g < length firsts.now) }
 {
-    for g in 0..n {
-        if same_columns(columns, cell, wide(firsts[g])) {
-            return g;
+    for (g, &first) in firsts.iter().enumerate() {
+        if same_columns(columns, cell, wide(first)) {
+            return Some(g);
         }
     }
-    n
+    None
 }
 
-// The groups of the cells between two places: their first cells, their sizes, and the group of each cell.
+// The groups of some cells: their first cells, their sizes, and the group of each cell.
 fn fill_groups(
-    cells: &[u16; 1024],
-    first: usize,
-    end: usize,
+    cells: &[u16],
     columns: &[u16; 8192],
     firsts: &mut [u16; 1024],
     sizes: &mut [u8; 1024],
     group_of: &mut [u16; 1024],
 ) -> usize
-    requires cells { Cells cells.now end × (first ≤ end) × (length columns.now ≡ 8192) }
+    requires cells { (all (λ c. ltb c 1024) cells.now ≡ true) × (length cells.now ≤ 1024) × (length columns.now ≡ 8192) }
     requires firsts_value { (firsts.old ≡ replicate 1024 0) × (sizes.old ≡ replicate 1024 0) × (group_of.old ≡ replicate 1024 0) }
-    requires end_value { all (λ c. leb (count (alike_by columns.now c) (cells_from cells.now first end)) 8) (cells_from cells.now first end) ≡ true }
-    ensures { GroupsAre (alike_by columns.now) (cells_from cells.now first end) result firsts.new sizes.new group_of.new }
+    requires few_alike { all (λ c. leb (count (alike_by columns.now c) cells.now) 8) cells.now ≡ true }
+    ensures { GroupsAre (alike_by columns.now) cells.now result firsts.new sizes.new group_of.new }
 {
     let mut n = 0;
-    for i in first..end {
-        let c = wide(cells[i]);
-        let g = first_alike(columns, firsts, n, c);
-        if g == n {
-            firsts[n] = cells[i];
-            n += 1;
-        }
-        sizes[g] = sizes[g] + 1;
+    for &cell in cells {
+        let c = wide(cell);
+        let g = match first_alike(columns, &firsts[..n], c) {
+            Some(found) => found,
+            None => {
+                firsts[n] = cell;
+                n += 1;
+                n - 1
+            }
+        };
+        sizes[g] += 1;
         group_of[c] = g as u16;
     }
     n
 }
 
-// The columns of the groups: those of their first cells.
-fn copy_columns(columns: &[u16; 8192], firsts: &[u16; 1024], n: usize, out: &mut [u16; 8192])
-    requires { (length columns.now ≡ 8192) × Cells firsts.now n × (length out.old ≡ 8192) }
-    ensures { out.new ≡ sets out.old 0 (joined (map (λ (c : ℕ). pad 8 65535 (slot_cells columns.now c)) (take n firsts.now))) }
+// The columns of some groups: those of their first cells.
+fn copy_columns(columns: &[u16; 8192], firsts: &[u16], out: &mut [u16; 8192])
+    requires { (length columns.now ≡ 8192) × (all (λ c. ltb c 1024) firsts.now ≡ true) × (length firsts.now ≤ 1024) × (length out.old ≡ 8192) }
+    ensures { out.new ≡ sets out.old 0 (joined (map (λ (c : ℕ). pad 8 65535 (slot_cells columns.now c)) firsts.now)) }
 {
-    for g in 0..n {
-        put_slots(out, g, slots_at(columns, wide(firsts[g])));
+    for (g, &first) in firsts.iter().enumerate() {
+        put_slots(out, g, slots_at(columns, wide(first)));
     }
 }
 
-// What each equation between two places needs, and how many cells it has. Is a remainder negative?
-fn fill_needs(
-    slots: &[u16; 8192],
-    rests: &[u8; 1024],
-    first: usize,
-    end: usize,
-    needs: &mut [u8; 1024],
-    rooms: &mut [u8; 1024],
-) -> bool
-    requires slots { Slots slots.now end × (first ≤ end) }
+// What each equation of a block needs, and how many cells it has.
+fn fill_needs(set: &BlockSet, bounds: Bounds, needs: &mut [u8; 1024], rooms: &mut [u8; 1024])
+    requires slots { Slots set.now.slots bounds.end_equation × (bounds.first_equation ≤ bounds.end_equation) }
     requires needs_value { (needs.old ≡ replicate 1024 0) × (rooms.old ≡ replicate 1024 0) }
-    ensures value { result ≡ any (λ (e : BlockEquation). ltb e.rest 8) (equations_from slots.now rests.now first end) }
-    ensures needs_after { needs.new ≡ pad 1024 0 (map (λ (e : BlockEquation). e.rest - 8) (equations_from slots.now rests.now first end)) }
-    ensures rooms_after { rooms.new ≡ pad 1024 0 (map (λ (e : BlockEquation). length e.cells) (equations_from slots.now rests.now first end)) }
+    ensures needs_after { needs.new ≡ pad 1024 0 (map (λ (e : BlockEquation). e.rest - 8) (equations_between set.now bounds)) }
+    ensures rooms_after { rooms.new ≡ pad 1024 0 (map (λ (e : BlockEquation). length e.cells) (equations_between set.now bounds)) }
 {
-    let mut negative = false;
-    for e in first..end {
-        let list = slots_at(slots, e);
-        rooms[e - first] = list.len as u8;
-        if rests[e] < 8 {
-            negative = true;
-        } else {
-            needs[e - first] = rests[e] - 8;
-        }
+    let first = bounds.first_equation;
+    for e in first..bounds.end_equation {
+        needs[e - first] = set.rests[e].saturating_sub(8);
+        rooms[e - first] = slots_at(&set.slots, e).len as u8;
     }
-    negative
+}
+
+// Is a remainder negative?
+fn has_negative(rests: &[u8]) -> bool
+    ensures { result ≡ list_any (λ r. ltb r 8) rests.now }
+{
+    rests.iter().any(|&rest| rest < 8)
 }
 
 // combine, of the block between these bounds.
@@ -184,36 +170,27 @@ pub fn combine(set: &BlockSet, bounds: Bounds) -> Grouped
     requires combinable { Combinable (block_between set.now bounds) }
     ensures { result ≡ grouped (block_between set.now bounds) }
 {
-    let first = bounds.first_equation;
-    let end = bounds.end_equation;
     let mut by_cell = [NO_CELL; 8192];
-    fill_columns(&set.slots, first, end, &mut by_cell);
+    fill_columns(set, bounds, &mut by_cell);
     let mut firsts = [0u16; 1024];
     let mut sizes = [0u8; 1024];
     let mut group_of = [0u16; 1024];
-    let groups = fill_groups(
-        &set.cells,
-        bounds.first_cell,
-        bounds.end_cell,
-        &by_cell,
-        &mut firsts,
-        &mut sizes,
-        &mut group_of,
-    );
+    let cells = set.cells_of(bounds);
+    let groups = fill_groups(cells, &by_cell, &mut firsts, &mut sizes, &mut group_of);
     let mut columns = [NO_CELL; 8192];
-    copy_columns(&by_cell, &firsts, groups, &mut columns);
+    copy_columns(&by_cell, &firsts[..groups], &mut columns);
     let mut needs = [0u8; 1024];
     let mut rooms = [0u8; 1024];
-    let negative = fill_needs(&set.slots, &set.rests, first, end, &mut needs, &mut rooms);
+    fill_needs(set, bounds, &mut needs, &mut rooms);
     Grouped {
         groups,
-        equations: end - first,
+        equations: bounds.end_equation - bounds.first_equation,
         firsts,
         sizes,
         columns,
         group_of,
         needs,
         rooms,
-        negative,
+        negative: has_negative(&set.rests[bounds.first_equation..bounds.end_equation]),
     }
 }

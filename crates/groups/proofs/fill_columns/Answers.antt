@@ -1,5 +1,5 @@
--- `groups::fill_columns` meets its contract. The loop's invariant: the columns are those in the equations before e. As a cell's column has at most
--- eight places in the end, there is room for each. The measure is what is left of the equations. Rests on the laws of `PushedColumns`. Assumes nothing.
+-- `groups::fill_columns` meets its contract. As a cell's column has at most eight places in the end, there is room for each. Rests on the laws of
+-- `PushedColumns`. Assumes nothing.
 use Prim.Native.Nat.{◌+◌, ◌-◌}
 use mathlib.Core.Path.{◌≡◌}
 use native.Mathlib.Omega.{arith}
@@ -13,47 +13,45 @@ use Rattle.groups.proofs.fill_columns.Goals.{After-slots_at}
 
 pub loop-e-init : goal.loop-e-init
 loop-e-init c =
-    let a = c.args in
-    let none : a.first - a.first ≡ 0 = omega arith in
-    (rw (c.requires.slots.2, none) (columns_none a.slots.now a.first), omega arith, c.requires.slots.1)
+    let first = c.args.bounds.first_equation in
+    let none : first - first ≡ 0 = omega arith in
+    rw (c.requires.slots.2, none) (columns_none c.args.set.now.slots first)
 
 -- the cells of the equation at e
 cells : (c : After-slots_at)
-    → (let l = c.loop-e in
-    let a = c.args in
-    cells_in c.slots_at.result ≡ slot_cells a.slots.now (a.first + (l.e - a.first)))
+    → (let first = c.args.bounds.first_equation in
+    cells_in c.slots_at.result ≡ slot_cells c.args.set.now.slots (first + (c.loop-e.e - first)))
 cells c =
-    let l = c.loop-e in
-    let a = c.args in
-    let at : a.first + (l.e - a.first) ≡ l.e = omega (arith, l.invariant.1) in
-    rw at (cells_listed (slot_cells a.slots.now l.e) c.slots_at.ensures)
+    let first = c.args.bounds.first_equation in
+    let at : first + (c.loop-e.e - first) ≡ c.loop-e.e = omega arith in
+    rw at (cells_listed (slot_cells c.args.set.now.slots c.loop-e.e) c.slots_at.ensures)
 
 pub push_equation-requires : goal.push_equation-requires
 push_equation-requires c =
     let l = c.loop-e in
-    let slots = c.args.slots.now in
-    let first = c.args.first in
-    let at : first + (l.e - first) ≡ l.e = omega (arith, l.invariant.1) in
+    let slots = c.args.set.now.slots in
+    let first = c.args.bounds.first_equation in
+    let end = c.args.bounds.end_equation in
+    let at : first + (l.e - first) ≡ l.e = omega arith in
     let h = c.loop-e-test.true in
-    let below = c.requires.slots.0.below l.e h in record {
-      on_board = (
-        listed_on_board c.slots_at.result slots l.e c.slots_at.ensures c.args.end c.requires.slots.0 h,
-        rw (cells (goal.at.push_equation-requires c).After-slots_at, at) (c.requires.by_index l.e l.invariant.1 h),
-        omega (arith, c.requires.slots.0.few),
-      );
-      slots = columns_slots slots first (l.e - first) l.invariant.0 (omega (arith, c.requires.slots.0.few));
-      list_value = rw (cells (goal.at.push_equation-requires c).After-slots_at) (columns_room slots first (l.e - first) l.invariant.0 (c.args.end - first) (omega (arith, l.invariant.1)) c.requires.by_index_2 (rw at below));
+    let few = c.requires.slots.0.few in
+    let below = c.requires.slots.0.below l.e h in
+    let own = cells (goal.at.push_equation-requires c).After-slots_at in
+    record {
+      on_board = (listed_on_board c.slots_at.result slots l.e c.slots_at.ensures end c.requires.slots.0 h, rw (own, at) (c.requires.by_index l.e (omega arith) h), omega arith);
+      slots = columns_slots slots first (l.e - first) l.invariant (omega arith);
+      list_value = rw own (columns_room slots first (l.e - first) l.invariant (end - first) (omega arith) c.requires.by_index_2 (rw at below));
     }
 
 pub loop-e-preserved : goal.loop-e-preserved
 loop-e-preserved c =
     let l = c.loop-e in
-    let first = c.args.first in
-    let more : l.e + 1 - first ≡ l.e - first + 1 = omega (arith, l.invariant.1) in
-    (rw more (columns_next c.args.slots.now first (l.e - first) l.invariant.0 _ (rw (cells (goal.at.loop-e-preserved c).After-slots_at) at c.push_equation.ensures)), omega arith, omega arith)
+    let first = c.args.bounds.first_equation in
+    let more : l.e + 1 - first ≡ l.e - first + 1 = omega arith in
+    rw more (columns_next c.args.set.now.slots first (l.e - first) l.invariant _ (rw (cells (goal.at.loop-e-preserved c).After-slots_at) at c.push_equation.ensures))
 
 pub returns : goal.returns
 returns c =
     let l = c.loop-e in
-    let end : l.e ≡ c.args.end = omega arith in
-    rw end at l.invariant.0
+    let end : l.e ≡ c.args.bounds.end_equation = omega arith in
+    rw end at l.invariant

@@ -1,6 +1,7 @@
-use Prim.Native.Nat.{◌-◌, ◌≤◌}
+-- The loop's invariant: the columns are those in the equations before e.
+use Prim.Native.Nat.{◌-◌}
 use Rattle.groups.specs.Combining.{ColumnsAre, column_in}
 use Rattle.groups.proofs.fill_columns.Given as goal
 
 abbrev pub invariant-loop-e : goal.invariant-loop-e
-invariant-loop-e l = ColumnsAre l.columns (column_in l.slots l.first (l.e - l.first)) × (l.first ≤ l.e) × (l.e ≤ l.end)
+invariant-loop-e l = ColumnsAre l.columns (column_in l.set.slots l.first (l.e - l.first))
