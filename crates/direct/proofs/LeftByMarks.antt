@@ -103,7 +103,7 @@ module _ (mines known : List ℕ) (b : Block) (told : Told mines known b) where
 -- ---- all blocks
 
 module _ (bs : List Block) (ready : Ready bs) (below : all (λ c. ltb c 1024) (all_cells bs) ≡ true) (mines safe known : List ℕ)
-    (mines_marked : Marks mines (sure_mines (all_equations bs))) (safe_marked_lem : Marks safe (sure_safe (all_equations bs)))
+    (mines_marked : Marks mines (sure_mines (all_equations bs))) (safe_marked : Marks safe (sure_safe (all_equations bs)))
     (both : (d : ℕ) → d < 1024 → get_or known d 0 ≡ bit (marked mines d || marked safe d)) where
   told_of_all : (b : Block) → Memᴰ b bs → Told mines known b
   told_of_all b m = record { mine = mine; unknown = unknown }
@@ -116,7 +116,7 @@ module _ (bs : List Block) (ready : Ready bs) (below : all (λ c. ltb c 1024) (a
           let there : has (all_cells bs) c ≡ true = mem_has (all_cells bs) (mem_joined (has_mem b.cells c h) (Memᴰ.map (λ (x : Block). x.cells) m)) in
           ap (λ (n : ℕ). eqb n 0) (both c (ltb-true c 1024 (all_has (λ x. ltb x 1024) (all_cells bs) below c there)))
           ∙ bit_is_zero (marked mines c || marked safe c)
-          ∙ rw (mine c h, marks_has safe_marked_lem c ∙ own_safe bs ready b m c h)
+          ∙ rw (mine c h, marks_has safe_marked c ∙ own_safe bs ready b m c h)
 
   -- where mines and safe cells are marked, and known cells are both, what is left by the marks is what the direct rule leaves
   pub left_of_all : left_blocks false mines known bs ≡ map direct_left bs

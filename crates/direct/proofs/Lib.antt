@@ -19,5 +19,6 @@ pub mod Sweeps
 pub mod WholeSets
 pub mod AllBlocks
 pub mod LeftByMarks
+pub mod RuleAnswers
 pub mod DirectAnswer
 pub mod SweptEquations

@@ -7,18 +7,18 @@ use mathlib.Core.List.{List, map}
 use Prim.Native.Nat.{ℕ, ◌-◌, ◌≤◌, ◌<◌}
 use native.Mathlib.Omega.{arith}
 use lib.Dec.{leb, ltb}
-use lib.ListN.{length, get_or}
+use lib.ListN.{length, get_or, take}
 use Rattle.lists.specs.Lists.{range, any, all}
 use Rattle.lists.proofs.Tests.{and_left, and_right}
 use Rattle.lists.proofs.All.{all_at}
-use Rattle.lists.proofs.Joined.{read_all, map_range}
+use Rattle.lists.proofs.Joined.{read_all, map_range, read_range}
 use Rattle.lists.proofs.PassingElements.{any_map, any_joined_map}
 use Rattle.blocks.specs.Blocks.{BlockEquation, Block}
 use Rattle.blocks.specs.BlockSets.{all_equations, slot_cells, begin_at, equation_at, blocks_of, small_equation, Whole}
 use Rattle.blocks.specs.Places.{Slots, equations_from}
 use Rattle.blocks.specs.declared.BlockSet.{BlockSet}
 use Rattle.blocks.proofs.Reading.{no_equation, equation_read}
-use Rattle.blocks.proofs.Behind.{slots_long, equations_held}
+use Rattle.blocks.proofs.Behind.{slots_long, rests_long, equations_held}
 use Rattle.direct.specs.Direct.{negative}
 use Rattle.direct.proofs.TakenOut.{is_negative}
 
@@ -61,8 +61,10 @@ module _ (s : BlockSet) (w : Whole s) (n : ℕ) (at : n ≡ begin_at s.equation_
           (and_right (leb (length x.cells) 8) (all (λ c. ltb c 1024) x.cells && ltb x.rest 256) (all_at small_equation es e no_equation w.fits.small h))
 
   -- one is negative exactly where one of a block is
-  pub negative_of_all : any (λ (e : ℕ). ltb (get_or s.rests e 0) 8) (range 0 n) ≡ negative (blocks_of s)
+  pub negative_of_all : any (λ r. ltb r 8) (take n s.rests) ≡ negative (blocks_of s)
   negative_of_all =
-      sym (any_map is_negative (equation_at s) (range 0 n))
+      ap (any (λ r. ltb r 8)) (sym (read_range s.rests 0 0 n (omega (arith, few_equations, rests_long s w))))
+      ∙ any_map (λ r. ltb r 8) (λ (e : ℕ). get_or s.rests e 0) (range 0 n)
+      ∙ sym (any_map is_negative (equation_at s) (range 0 n))
       ∙ ap (any is_negative) all_read
       ∙ any_joined_map is_negative (λ (b : Block). b.equations) (blocks_of s)

@@ -1,15 +1,16 @@
 // solve_direct on a block set. First sweep: the cells of each equation with as many mines as cells are mines. Second sweep: with these taken out, the cells
 // of each equation with no mine left are safe. Both go from the last equation to the first, and in each from its last cell to its first. No cell stands
 // in two blocks, so the sweeps need not know where a block ends.
-ghost use Rattle.std.specs.Prelude.{◌≡◌, not, [], reverse, ◌-◌, ◌<◌, take};
+ghost use Rattle.std.specs.Prelude.{◌≡◌, not, [], reverse, ◌-◌, ◌<◌, take, IfOk};
 ghost use Rattle.lists.specs.Lists.{keep, add_new};
 ghost use Rattle.blocks.specs.BlockSets.{blocks_of, Whole};
 ghost use Rattle.blocks.specs.Places.{marked, Marks, OnBoard, Slots, equations_from};
 ghost use Rattle.marks.specs.Marked.{Ready, Listed};
 ghost use Rattle.direct.specs.Direct.{sure_mines, sure_safe, direct};
 ghost use Rattle.direct.specs.Answers.{Sweeps, rule_answer, swept_lists};
+ghost use Rattle.direct.specs.declared.answer.RuleAnswer.{RuleAnswer};
 
-use super::answer::{Lists, RuleAnswer, contradiction};
+use super::answer::{Contradiction, Lists, RuleAnswer};
 use blocks::{BlockSet, begin_at, slots_at};
 use chunks::chunk_matrixes;
 use grid::window::{UpToEight, wide};
@@ -114,8 +115,7 @@ fn sweep_safe(
 pub struct Swept {
     pub mine_marks: [u8; 1024],
     pub safe_marks: [u8; 1024],
-    pub safe: CellList,
-    pub mines: CellList,
+    pub lists: Lists,
 }
 
 // The two sweeps over equations, in whatever blocks and order.
@@ -146,13 +146,15 @@ fn sweep(slots: &[u16; 8192], rests: &[u8; 1024], equations: usize) -> Swept
     Swept {
         mine_marks,
         safe_marks,
-        safe: CellList {
-            cells: safe,
-            count: safe_count,
-        },
-        mines: CellList {
-            cells: mines,
-            count: mine_count,
+        lists: Lists {
+            safe: CellList {
+                cells: safe,
+                count: safe_count,
+            },
+            mines: CellList {
+                cells: mines,
+                count: mine_count,
+            },
         },
     }
 }
@@ -163,36 +165,27 @@ pub fn swept_cells(slots: &[u16; 8192], rests: &[u8; 1024], equations: usize) ->
     ensures { result ≡ swept_lists (equations_from slots.now rests.now 0 equations) }
 {
     let found = sweep(slots, rests, equations);
-    let safe = found.safe;
-    let mines = found.mines;
-    Lists { safe, mines }
+    found.lists
 }
 
-// solve_direct on blocks: the two sweeps, refusal 6 where an equation left over is negative, and the blocks left, split anew.
-pub fn direct_rule(set: BlockSet) -> RuleAnswer
+// solve_direct on blocks: the two sweeps, the contradiction where an equation left over is negative, and the blocks left, split anew.
+pub fn direct_rule(set: BlockSet) -> Result<RuleAnswer, Contradiction>
     requires whole { Whole set }
     requires ready { Ready (blocks_of set) }
     ensures value { result ≡ rule_answer (direct (blocks_of set)) }
-    ensures whole_2 { Whole result.left }
+    ensures left_whole { IfOk result (λ (answer : RuleAnswer). Whole answer.left) }
 {
-    let slots = set.slots;
-    let rests = set.rests;
     let equations = begin_at(&set.equation_ends, set.blocks);
-    let found = sweep(&slots, &rests, equations);
-    let mine_marks = found.mine_marks;
-    let safe_marks = found.safe_marks;
-    let known = marked_in_one(&mine_marks, &safe_marks);
-    let left = left_blocks(set, &mine_marks, &known, false);
+    let found = sweep(&set.slots, &set.rests, equations);
+    let known = marked_in_one(&found.mine_marks, &found.safe_marks);
+    let left = left_blocks(set, &found.mine_marks, &known, false);
     let end = begin_at(&left.equation_ends, left.blocks);
-    if has_negative(&left.rests, end) {
-        return contradiction();
+    let rests = &left.rests[..end];
+    if has_negative(rests) {
+        return Err(Contradiction);
     }
-    let safe = found.safe;
-    let mines = found.mines;
-    RuleAnswer {
-        contradiction: false,
-        safe,
-        mines,
+    Ok(RuleAnswer {
+        lists: found.lists,
         left: chunk_matrixes(left),
-    }
+    })
 }

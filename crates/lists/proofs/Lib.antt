@@ -30,6 +30,7 @@ pub mod Stores
 pub mod Rotated
 pub mod Storing
 pub mod Loops
+pub mod ByItems
 pub mod StoredAndKept
 pub mod ReadBack
 pub mod LentParts

@@ -6,6 +6,9 @@ use Prim.Native.Nat.{ℕ, suc, ◌+◌, ◌≤◌}
 use native.Mathlib.Nat.{add-zero, add-suc, suc-add}
 use native.Mathlib.Omega.{arith}
 use lib.ListN.{length, take, drop, set, take-append-drop}
+use borrow.Rule.Slice.PartMut.{put_mid}
+use Rattle.std.proofs.lemmas.List.Edits.{paste_all}
+use Rattle.std.proofs.lemmas.Slice.{put_mid-paste}
 use lib.Seq.{sets, set_out, sets-eq, length-sets, length-take-le, take-set-le, drop-set-lt, take-append_seam, drop_at}
 use Rattle.lists.proofs.Joined.{slice_append}
 
@@ -39,6 +42,13 @@ module _ {A : Type 0} where
         ap (λ (x : List A). take (length vs) (drop i x)) (sets-eq vs l i fits ∙ append_assoc (take i l) vs (drop (i + length vs) l))
         ∙ ap (take (length vs)) (drop_at (take i l) (vs ++ drop (i + length vs) l) i (length-take-le i l (omega arith)))
         ∙ take-append_seam vs (drop (i + length vs) l)
+
+    -- the same by one copy into a part of the list
+    pub copied_stored : (k : ℕ) → k ≡ length vs → put_mid i k l vs ≡ sets l i vs
+    copied_stored k e =
+        put_mid-paste i k l vs vs k refl refl e
+        ∙ paste_all l i vs k e
+        ∙ rw e (sym (sets-eq vs l i fits ∙ append_assoc (take i l) vs (drop (i + length vs) l)))
 
     pub slice_before : (a k : ℕ) → a + k ≤ i → take k (drop a (sets l i vs)) ≡ take k (drop a l)
     slice_before a k h =

@@ -8,14 +8,14 @@ use Prim.Native.Nat.{ℕ, ◌+◌, ◌≤◌, ◌<◌}
 use native.Mathlib.Decide.{dec_lt}
 use native.Mathlib.Omega.{arith}
 use lib.Dec.{eqb}
-use lib.ListN.{length, get_or, take, drop, set, length-map, length-set, get_or-eq_default}
+use lib.ListN.{length, get_or, drop, set, length-map, length-set, get_or-eq_default}
 use lib.Seq.{get_or-set_same, get_or-set_other}
 use borrow.Author.Tests.{eqb-true, eqb-false}
 use Rattle.lists.specs.Lists.{range, has}
 use Rattle.lists.proofs.Tests.{Decided, decided}
 use Rattle.lists.proofs.Elements.{get_d_any}
 use Rattle.lists.proofs.Rearranged.{length_range}
-use Rattle.lists.proofs.Counted.{counted_none, rest_more}
+use Rattle.lists.proofs.Arrays.{drop_more, drop_none}
 use Rattle.lists.proofs.Joined.{read_all, map_range}
 use Rattle.grid.specs.Cells.{shows}
 use Rattle.marks.specs.Written.{written}
@@ -50,16 +50,15 @@ written_next value x l p = map_range before after 0 (length p) (λ c _ h. same c
         rw (e, there) (either (has l c))
     same c h (inr e) = rw (e, get_or-set_other p x c value 0 (eqb-false c x e))
 
--- the same of a list in an array with a count, up to whose place k the cells are written
-module _ (value : ℕ) (list : List ℕ) (count k : ℕ) where
+-- up to place k of a list the cells are written
+module _ (value : ℕ) (l : List ℕ) (k : ℕ) where
   -- the cell x at place k is written
-  pub mark_next : (x : ℕ) → count ≤ length list → k < count → x ≡ get_or list k 0 → (p : List ℕ)
-      → written value (drop k (take count list)) p ≡ written value (drop (k + 1) (take count list)) (set p x value)
-  mark_next x few inside at p = rw (rest_more list count k x few inside at) (written_next value x (drop (k + 1) (take count list)) p)
+  pub written_more : (x : ℕ) → k < length l → x ≡ get_or l k 0 → (p : List ℕ) → written value (drop k l) p ≡ written value (drop (k + 1) l) (set p x value)
+  written_more x inside at p = rw (drop_more l k 0 inside, ← at) (written_next value x (drop (k + 1) l) p)
 
   -- all are written
-  pub mark_end : count ≤ k → (p : List ℕ) → written value (drop k (take count list)) p ≡ p
-  mark_end done p = rw (counted_none list count k done) (written_none value p)
+  pub written_all : length l ≤ k → (p : List ℕ) → written value (drop k l) p ≡ p
+  written_all done p = rw (drop_none l k done) (written_none value p)
 
 -- ---- what it shows
 

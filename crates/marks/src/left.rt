@@ -14,25 +14,23 @@ use super::listing::list_cells;
 use blocks::{BlockSet, Bounds, begin_at, bounds_at, empty_set, put_slots, slots_at};
 use grid::window::{UpToEight, wide};
 
+// The byte of a remainder 0: remainders are kept plus 8, so that one less than 0 is a byte too.
+pub const ZERO_REST: u8 = 8;
+
 // The cells of a list that are not known.
 fn left_list(list: UpToEight, known: &[u8; 1024]) -> UpToEight
     requires { OnBoard list }
     ensures { result ≡ listed (keep (λ c. eqb (get_or known.now c 0) 0) (take list.len list.cells)) }
 {
-    let cells = list.cells;
-    let len = list.len;
-    let mut left = [0u16; 8];
-    let mut n = 0;
-    for k in 0..len {
-        if known[wide(cells[k])] == 0 {
-            left[n] = cells[k];
-            n += 1;
+    let mut cells = [0u16; 8];
+    let mut len = 0;
+    for &cell in list.as_slice() {
+        if known[wide(cell)] == 0 {
+            cells[len] = cell;
+            len += 1;
         }
     }
-    UpToEight {
-        cells: left,
-        len: n,
-    }
+    UpToEight { cells, len }
 }
 
 // A remainder less the mines among an equation's cells. No remainder plus 8 of a frontier is below its number of cells, so there 0 never stands in for less.
@@ -40,15 +38,14 @@ fn left_rest(rest: u8, mines: &[u8; 1024], list: UpToEight) -> u8
     requires { OnBoard list }
     ensures { result ≡ rest - count (marked mines.now) (take list.len list.cells) }
 {
-    let known = count_marked(mines, list) as u8;
-    if rest < known { 0 } else { rest - known }
+    rest.saturating_sub(count_marked(mines, list) as u8)
 }
 
 // Does an equation stay, by its remainder?
 fn rest_stays(subtracted: bool, rest: u8) -> bool
     ensures { (e : BlockEquation) → e.rest ≡ rest → result ≡ stays subtracted e }
 {
-    if subtracted { true } else { rest != 8 }
+    subtracted || rest != ZERO_REST
 }
 
 // The equations between two places that stay go to `out` from place `at` on.
@@ -181,31 +178,19 @@ pub fn left_blocks(
     ensures value { result ≡ block_set (left_blocks subtracted mines.now known.now (blocks_of set)) }
     ensures whole { Whole result }
 {
-    let cells = set.cells;
-    let slots = set.slots;
-    let rests = set.rests;
-    let cell_ends = set.cell_ends;
-    let equation_ends = set.equation_ends;
-    let blocks = set.blocks;
     let mut out = empty_set();
-    for b in 0..blocks {
-        let bounds = bounds_at(&cell_ends, &equation_ends, b);
+    for b in 0..set.blocks {
+        let bounds = bounds_at(&set.cell_ends, &set.equation_ends, b);
         out = put_left(
-            &cells, &slots, &rests, bounds, mines, known, subtracted, out,
+            &set.cells, &set.slots, &set.rests, bounds, mines, known, subtracted, out,
         );
     }
     out
 }
 
-// Is one of the first remainders negative?
-pub fn has_negative(rests: &[u8; 1024], end: usize) -> bool
-    requires { end ≤ 1024 }
-    ensures { result ≡ any (λ (e : ℕ). ltb (get_or rests.now e 0) 8) (range 0 end) }
+// Is one of these remainders negative?
+pub fn has_negative(rests: &[u8]) -> bool
+    ensures { result ≡ any (λ r. ltb r 8) rests.now }
 {
-    for e in 0..end {
-        if rests[e] < 8 {
-            return true;
-        }
-    }
-    false
+    rests.iter().any(|&rest| rest < ZERO_REST)
 }

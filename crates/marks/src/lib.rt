@@ -18,15 +18,13 @@ pub fn count_marked(marks: &[u8; 1024], list: UpToEight) -> usize
     requires { OnBoard list }
     ensures { result ≡ count (marked marks.now) (take list.len list.cells) }
 {
-    let cells = list.cells;
-    let len = list.len;
-    let mut n = 0;
-    for k in 0..len {
-        if marks[wide(cells[k])] == 1 {
-            n += 1;
+    let mut found = 0;
+    for &cell in list.as_slice() {
+        if marks[wide(cell)] == 1 {
+            found += 1;
         }
     }
-    n
+    found
 }
 
 // The cells that one of two arrays has marked.
@@ -35,23 +33,17 @@ pub fn marked_in_one(mines: &[u8; 1024], safe: &[u8; 1024]) -> [u8; 1024]
 {
     let mut known = [0u8; 1024];
     for c in 0..1024 {
-        if mines[c] == 1 {
-            known[c] = 1;
-        }
-        if safe[c] == 1 {
-            known[c] = 1;
-        }
+        known[c] = u8::from(mines[c] == 1 || safe[c] == 1);
     }
     known
 }
 
-// Writes a value at the first `count` cells of a list.
-pub fn write_at_cells(list: &[u16; 1024], count: usize, value: u8, position: &mut [u8])
-    requires list_len { (length list.now ≡ 1024) × (count ≤ 1024) }
-    requires list_value { all (λ c. ltb c (length position.old)) (take count list.now) ≡ true }
-    ensures { position.new ≡ written value (take count list.now) position.old }
+// Writes a value at each of these cells.
+pub fn write_at_cells(cells: &[u16], value: u8, position: &mut [u8])
+    requires { all (λ c. ltb c (length position.old)) cells.now ≡ true }
+    ensures { position.new ≡ written value cells.now position.old }
 {
-    for k in 0..count {
-        position[wide(list[k])] = value;
+    for &cell in cells {
+        position[wide(cell)] = value;
     }
 }

@@ -1,9 +1,9 @@
 // Lists of cells with their counts; and cells of blocks listed by their marks: in each block in its cell order, blocks from the last to the first.
-ghost use Rattle.std.specs.Prelude.{◌≡◌, ◌+◌, ◌≤◌, length, take};
+ghost use Rattle.std.specs.Prelude.{◌≡◌, [], ◌+◌, ◌≤◌, length, take};
 ghost use Rattle.std.proofs.lemmas.List.Edits.{sets};
 ghost use Rattle.blocks.specs.Places.{Cells};
 ghost use Rattle.marks.specs.Marked.{cells_with, Parts, all_with};
-ghost use Rattle.marks.specs.CellLists.{cell_list, Appended};
+ghost use Rattle.marks.specs.CellLists.{cell_list, list_in, Appended};
 
 use blocks::begin_at;
 use grid::window::wide;
@@ -13,6 +13,39 @@ use grid::window::wide;
 pub struct CellList {
     pub cells: [u16; 1024],
     pub count: usize,
+}
+
+impl CellList {
+    // No cell.
+    pub fn none() -> CellList
+        ensures { result ≡ cell_list [] }
+    {
+        CellList {
+            cells: [0; 1024],
+            count: 0,
+        }
+    }
+
+    // The listed cells alone.
+    pub fn as_slice(&self) -> &[u16]
+        requires { self.now.count ≤ 1024 }
+        ensures { result.now ≡ list_in self.now }
+    {
+        &self.cells[..self.count]
+    }
+
+    // This list with another behind it.
+    pub fn followed_by(self, more: CellList) -> CellList
+        requires { self.count + more.count ≤ 1024 }
+        ensures { Appended self more result }
+    {
+        let mut cells = self.cells;
+        put_list(more.as_slice(), &mut cells, self.count);
+        CellList {
+            cells,
+            count: self.count + more.count,
+        }
+    }
 }
 
 // The cells between two places that have this mark go to `out` from place `at` on.
@@ -67,27 +100,10 @@ pub fn list_blocks(
     }
 }
 
-// The first `count` numbers of a list go to `out` from place `at` on.
-pub fn put_list(list: &[u16; 1024], count: usize, out: &mut [u16], at: usize)
-    requires count_bound { (count ≤ 1024) × (at + count ≤ length out.old) }
-    requires list_len { length list.now ≡ 1024 }
-    ensures { out.new ≡ sets out.old at (take count list.now) }
+// The numbers of a list go to `out` from place `at` on.
+pub fn put_list(list: &[u16], out: &mut [u16], at: usize)
+    requires { at + length list.now ≤ length out.old }
+    ensures { out.new ≡ sets out.old at list.now }
 {
-    for k in 0..count {
-        out[at + k] = list[k];
-    }
-}
-
-// One list behind another.
-pub fn append(first: CellList, second: CellList) -> CellList
-    requires { first.count + second.count ≤ 1024 }
-    ensures { Appended first second result }
-{
-    let mut cells = first.cells;
-    let more = second.cells;
-    put_list(&more, second.count, &mut cells, first.count);
-    CellList {
-        cells,
-        count: first.count + second.count,
-    }
+    out[at..at + list.len()].copy_from_slice(list);
 }

@@ -67,7 +67,7 @@ module _ (s : BlockSet) (w : Whole s) (ready : Ready (blocks_of s)) (mines safe 
   pub subtracted : (known : List ℕ) → ((d : ℕ) → d < 1024 → get_or known d 0 ≡ bit (marked mines d || marked safe d))
       → (mine_list : CellList) → mine_list ≡ cell_list (all_with mines s.cells s.cell_ends s.blocks)
       → (safe_list : CellList) → safe_list ≡ cell_list (all_with safe s.cells s.cell_ends s.blocks)
-      → Subtracts bs record { mine_marks = mines; known = known; safe = safe_list; mines = mine_list }
+      → Subtracts bs record { mine_marks = mines; known = known; lists = record { safe = safe_list; mines = mine_list } }
   subtracted known known_are mine_list mines_held safe_list safe_held = record {
     safe_are = safe_held ∙ ap cell_list safe_listed;
     mines_are = mines_held ∙ ap cell_list mines_listed;

@@ -11,13 +11,15 @@ use Rattle.blocks.specs.declared.BlockSet.{BlockSet}
 use Rattle.blocks.proofs.Reading.{blocks_of_set}
 use Rattle.chunks.specs.Chunks.{chunk_matrixes}
 use Rattle.marks.specs.Marked.{Ready, left_blocks}
-use Rattle.marks.specs.CellLists.{cell_list, Appended}
-use Rattle.marks.specs.declared.listing.CellList.{CellList}
-use Rattle.direct.specs.Found.{contradicted}
+use Rattle.marks.specs.CellLists.{cell_list}
+use Rattle.std.specs.Prelude.{Ok, Err}
+use Rattle.direct.specs.Found.{Found, contradicted}
 use Rattle.direct.specs.Direct.{from_last, direct}
-use Rattle.direct.specs.Answers.{rule_answer}
+use Rattle.direct.specs.Answers.{rule_answer, AppendedLists}
+use Rattle.direct.specs.declared.answer.Contradiction.{Contradiction}
+use Rattle.direct.specs.declared.answer.Lists.{Lists}
 use Rattle.direct.specs.declared.answer.RuleAnswer.{RuleAnswer}
-use Rattle.direct.proofs.DirectLaws.{direct_contradiction}
+use Rattle.direct.proofs.RuleAnswers.{Holds, answer_err, answer_ok, err_answered, ok_answered}
 use Rattle.direct.proofs.LeftFits.{direct_left_fits}
 use Rattle.subtraction.specs.Minus.{minus_mines, minus_safe, minus_blocks, subtraction}
 use Rattle.subtraction.specs.Pairs.{Subtracts}
@@ -27,12 +29,7 @@ use Rattle.subtraction.proofs.ReadyBlocks.{minus_ready, mines_room, safe_room}
 
 -- ---- the answers of the two rules
 
--- where the direct rule answers the contradiction that is all it answers
-direct_contradicted : (bs : List Block) → (direct bs).contradiction ≡ true → direct bs ≡ contradicted
-unfolding direct
-direct_contradicted bs h = rw (sym (direct_contradiction bs) ∙ h)
-
--- and the subtraction rule answers the same
+-- where the direct rule finds the contradiction
 subtraction_contradicted : (bs : List Block) → (direct (minus_blocks bs)).contradiction ≡ true → subtraction bs ≡ contradicted
 unfolding subtraction
 subtraction_contradicted bs h = rw h
@@ -70,58 +67,36 @@ module _ (s : BlockSet) (w : Whole s) (ready : Ready (blocks_of s)) (own : Subtr
   pub left_ready : Ready (blocks_of left)
   left_ready = rw blocks_left (minus_ready bs ready)
 
-  -- `rule` is what that answers
-  module _ (rule : RuleAnswer) (rule_is : rule ≡ rule_answer (direct (blocks_of left))) where
-    answered : rule ≡ rule_answer (direct (minus_blocks bs))
-    answered = rw blocks_left at rule_is
+  found_again : direct (blocks_of left) ≡ direct (minus_blocks bs)
+  found_again = ap direct blocks_left
 
-    rule_contradiction : (direct (minus_blocks bs)).contradiction ≡ rule.contradiction
-    unfolding rule_answer
-    rule_contradiction = sym (ap (λ (r : RuleAnswer). r.contradiction) answered)
+  -- the contradiction is handed on
+  pub rule_contradicted : (e f : Contradiction) → Err e ≡ rule_answer (direct (blocks_of left)) → Err f ≡ rule_answer (subtraction bs)
+  rule_contradicted e f h =
+      let none = err_answered (direct (minus_blocks bs)) e (rw found_again at h) in
+      answer_err (subtraction bs) f (ap (λ (x : Found). x.contradiction) (subtraction_contradicted bs none))
 
-    rule_safe : rule.safe ≡ cell_list (direct (minus_blocks bs)).safe
-    unfolding rule_answer
-    rule_safe = ap (λ (r : RuleAnswer). r.safe) answered
-
-    rule_mines : rule.mines ≡ cell_list (direct (minus_blocks bs)).mines
-    unfolding rule_answer
-    rule_mines = ap (λ (r : RuleAnswer). r.mines) answered
+  -- else `rule` is what that answers
+  module _ (rule : RuleAnswer) (rule_is : Ok rule ≡ rule_answer (direct (blocks_of left))) where
+    rule_holds : Holds (direct (minus_blocks bs)) rule
+    rule_holds = ok_answered (direct (minus_blocks bs)) rule (rw found_again at rule_is)
 
     -- its blocks are read back
     rule_left : blocks_of rule.left ≡ (direct (minus_blocks bs)).left
-    unfolding rule_answer
-    rule_left =
-        ap (λ (r : RuleAnswer). blocks_of r.left) answered
-        ∙ blocks_of_set (direct (minus_blocks bs)).left (direct_left_fits (minus_blocks bs) (minus_fits bs w.fits))
-
-    -- a contradiction is handed on
-    pub rule_contradicted : rule.contradiction ≡ true → rule ≡ rule_answer (subtraction bs)
-    rule_contradicted h =
-        let both = rule_contradiction ∙ h in
-        answered ∙ ap rule_answer (direct_contradicted (minus_blocks bs) both ∙ sym (subtraction_contradicted bs both))
+    rule_left = ap blocks_of rule_holds.left_is ∙ blocks_of_set (direct (minus_blocks bs)).left (direct_left_fits (minus_blocks bs) (minus_fits bs w.fits))
 
     -- there is room for both lists
-    pub all_mines_fit : own.mines.count + rule.mines.count ≤ 1024
-    all_mines_fit = rw (told.mines_are, rule_mines) (mines_room bs ready w.fits)
-
-    pub all_safe_fit : own.safe.count + rule.safe.count ≤ 1024
-    all_safe_fit = rw (told.safe_are, rule_safe) (safe_room bs ready w.fits)
+    pub all_fit : (own.lists.safe.count + rule.lists.safe.count ≤ 1024) × (own.lists.mines.count + rule.lists.mines.count ≤ 1024)
+    all_fit = (rw (told.safe_are, rule_holds.safe_are) (safe_room bs ready w.fits), rw (told.mines_are, rule_holds.mines_are) (mines_room bs ready w.fits))
 
     -- and the struct that holds them, with the blocks left, is the rule's answer
-    pub rule_answered : rule.contradiction ≡ false
-        → (safe : CellList) → Appended own.safe rule.safe safe → (mines : CellList) → Appended own.mines rule.mines mines
-        → (split : BlockSet) → split ≡ block_set (chunk_matrixes (blocks_of rule.left))
-        → record { contradiction = false; safe = safe; mines = mines; left = split } ≡ rule_answer (subtraction bs)
-    unfolding rule_answer
-    rule_answered out safe safe_both mines mines_both split split_is =
-        let none = rule_contradiction ∙ out in
-        rw (
-          safe_both (from_last minus_safe bs) (direct (minus_blocks bs)).safe told.safe_are rule_safe,
-          mines_both (from_last minus_mines bs) (direct (minus_blocks bs)).mines told.mines_are rule_mines,
-          split_is,
-          rule_left,
-          subtraction_found bs none,
-          found_mines bs none,
-          found_safe bs none,
-          found_left bs none,
-        )
+    pub rule_answered : (lists : Lists) → AppendedLists own.lists rule.lists lists → (split : BlockSet) → split ≡ block_set (chunk_matrixes (blocks_of rule.left))
+        → Ok (record { lists = lists; left = split }) ≡ rule_answer (subtraction bs)
+    rule_answered lists appended split split_is =
+        let none = rule_holds.none in
+        answer_ok (subtraction bs) _ (record {
+          none = subtraction_found bs none;
+          safe_are = appended.0 (from_last minus_safe bs) (direct (minus_blocks bs)).safe told.safe_are rule_holds.safe_are ∙ ap cell_list (sym (found_safe bs none));
+          mines_are = appended.1 (from_last minus_mines bs) (direct (minus_blocks bs)).mines told.mines_are rule_holds.mines_are ∙ ap cell_list (sym (found_mines bs none));
+          left_is = split_is ∙ ap (λ (r : List Block). block_set (chunk_matrixes r)) rule_left ∙ ap block_set (sym (found_left bs none));
+        })

@@ -16,12 +16,12 @@ use Rattle.blocks.specs.declared.BlockSet.{BlockSet}
 use Rattle.blocks.proofs.Slots.{all_slots}
 use Rattle.sources.proofs.EquationArrays.{slots_stored, rests_stored, arrays_slots, arrays_read}
 use Rattle.marks.specs.Marked.{Ready, left_equations}
-use Rattle.marks.specs.CellLists.{cell_list, Appended}
-use Rattle.marks.specs.declared.listing.CellList.{CellList}
+use Rattle.marks.specs.CellLists.{cell_list}
 use Rattle.marks.proofs.WhatIsLeft.{equations_fewer, equations_pass, small_left}
 use Rattle.direct.specs.Direct.{sure_mines, sure_safe, from_last}
-use Rattle.direct.specs.Answers.{lists_of, swept_lists}
+use Rattle.direct.specs.Answers.{swept_lists, AppendedLists}
 use Rattle.direct.specs.declared.answer.Lists.{Lists}
+use Rattle.direct.proofs.RuleAnswers.{lists_made, lists_safe, lists_mines}
 use Rattle.direct.proofs.WholeSets.{equations_of_all}
 use Rattle.subtraction.specs.Minus.{minus_mines, minus_safe, left_of}
 use Rattle.subtraction.specs.Pairs.{Subtracts, minus_lists}
@@ -80,26 +80,18 @@ module _ (s : BlockSet) (w : Whole s) (ready : Ready (blocks_of s)) (own : Subtr
   swept = more_is ∙ ap swept_lists (ap (left_equations true own.mine_marks own.known) (equations_of_all s w n at) ∙ told.equations_left)
 
   more_mines : more.mines ≡ cell_list (sure_mines (left_of bs))
-  unfolding lists_of
-  more_mines = ap (λ (l : Lists). l.mines) swept
+  more_mines = lists_mines more (sure_safe (left_of bs)) (sure_mines (left_of bs)) swept
 
   more_safe : more.safe ≡ cell_list (sure_safe (left_of bs))
-  unfolding lists_of
-  more_safe = ap (λ (l : Lists). l.safe) swept
+  more_safe = lists_safe more (sure_safe (left_of bs)) (sure_mines (left_of bs)) swept
 
   -- there is room for both lists
-  pub both_mines_fit : own.mines.count + more.mines.count ≤ 1024
-  both_mines_fit = rw (told.mines_are, more_mines) (left_mines_room bs ready w.fits)
-
-  pub both_safe_fit : own.safe.count + more.safe.count ≤ 1024
-  both_safe_fit = rw (told.safe_are, more_safe) (left_safe_room bs ready w.fits)
+  pub both_fit : (own.lists.safe.count + more.safe.count ≤ 1024) × (own.lists.mines.count + more.mines.count ≤ 1024)
+  both_fit = (rw (told.safe_are, more_safe) (left_safe_room bs ready w.fits), rw (told.mines_are, more_mines) (left_mines_room bs ready w.fits))
 
   -- and the struct that holds them is what the contract says
-  pub both_answered : (safe : CellList) → Appended own.safe more.safe safe → (mines : CellList) → Appended own.mines more.mines mines
-      → record { safe = safe; mines = mines } ≡ minus_lists bs
-  unfolding lists_of
-  both_answered safe safe_both mines mines_both =
-      rw (
-        safe_both (from_last minus_safe bs) (sure_safe (left_of bs)) told.safe_are more_safe,
-        mines_both (from_last minus_mines bs) (sure_mines (left_of bs)) told.mines_are more_mines,
-      )
+  pub both_answered : (lists : Lists) → AppendedLists own.lists more lists → lists ≡ minus_lists bs
+  both_answered lists appended =
+      lists_made lists _ _
+      (appended.0 (from_last minus_safe bs) (sure_safe (left_of bs)) told.safe_are more_safe)
+      (appended.1 (from_last minus_mines bs) (sure_mines (left_of bs)) told.mines_are more_mines)

@@ -30,7 +30,7 @@ some_other t e es = any (λ (f : BlockEquation). exceeds e f && t e f) es
 
 -- what all pairs of all blocks tell: the rule's own lists, and marks by which there is left what the rule leaves
 pub record Subtracts (bs : List Block) (r : Subtracted) : Type 0 where
-  pub safe_are : r.safe ≡ cell_list (from_last minus_safe bs)
-  pub mines_are : r.mines ≡ cell_list (from_last minus_mines bs)
+  pub safe_are : r.lists.safe ≡ cell_list (from_last minus_safe bs)
+  pub mines_are : r.lists.mines ≡ cell_list (from_last minus_mines bs)
   pub blocks_left : left_blocks true r.mine_marks r.known bs ≡ minus_blocks bs
   pub equations_left : left_equations true r.mine_marks r.known (all_equations bs) ≡ left_of bs

@@ -5,23 +5,24 @@
 
 pub mod own;
 
-ghost use Rattle.std.specs.Prelude.{◌≡◌, true, ◌||◌, ℕ, ◌≤◌, ◌<◌, length, get_or};
+ghost use Rattle.std.specs.Prelude.{◌≡◌, true, ◌||◌, ℕ, ◌≤◌, ◌<◌, length, get_or, IfOk};
 ghost use Rattle.lists.specs.Lists.{range, any, all, has};
 ghost use Rattle.blocks.specs.Blocks.{BlockEquation};
 ghost use Rattle.blocks.specs.BlockSets.{blocks_of, begin_at, small_equation, Whole};
 ghost use Rattle.blocks.specs.Places.{marked, Slots, equations_from};
 ghost use Rattle.marks.specs.Marked.{Ready, left_equations};
 ghost use Rattle.direct.specs.Answers.{rule_answer, swept_lists};
+ghost use Rattle.direct.specs.declared.answer.RuleAnswer.{RuleAnswer};
 ghost use Rattle.subtraction.specs.Minus.{own_cells, some_pair, subtraction};
 ghost use Rattle.subtraction.specs.Pairs.{Once, equation_in, some_other, Subtracts, minus_lists};
 
 use blocks::{BlockSet, begin_at, marks_of, slots_at};
 use chunks::chunk_matrixes;
-use direct::answer::{Lists, RuleAnswer};
+use direct::answer::{Contradiction, Lists, RuleAnswer};
 use direct::direct::{direct_rule, swept_cells};
 use grid::window::{wide, wide_byte};
 use marks::left::{left_blocks, left_rests, left_slots};
-use marks::listing::{CellList, append, list_blocks};
+use marks::listing::list_blocks;
 use marks::{count_marked, marked_in_one};
 use own::mark_own;
 
@@ -130,63 +131,50 @@ fn sweep_left(
 pub struct Subtracted {
     pub mine_marks: [u8; 1024],
     pub known: [u8; 1024],
-    pub safe: CellList,
-    pub mines: CellList,
+    pub lists: Lists,
 }
 
 // The pairs of all blocks: marks, and the rule's own lists.
-fn subtract(set: BlockSet) -> Subtracted
-    requires whole { Whole set }
-    requires ready { Ready (blocks_of set) }
-    ensures { Subtracts (blocks_of set) result }
+fn subtract(set: &BlockSet) -> Subtracted
+    requires whole { Whole set.now }
+    requires ready { Ready (blocks_of set.now) }
+    ensures { Subtracts (blocks_of set.now) result }
 {
     let mut mine_marks = [0u8; 1024];
     let mut safe_marks = [0u8; 1024];
-    let slots = set.slots;
-    let rests = set.rests;
-    let ends = set.equation_ends;
-    let blocks = set.blocks;
     subtract_blocks(
-        &slots,
-        &rests,
-        &ends,
-        blocks,
+        &set.slots,
+        &set.rests,
+        &set.equation_ends,
+        set.blocks,
         &mut mine_marks,
         &mut safe_marks,
     );
-    let cells = set.cells;
-    let cell_ends = set.cell_ends;
-    let mines = list_blocks(&cells, &cell_ends, blocks, &mine_marks);
-    let safe = list_blocks(&cells, &cell_ends, blocks, &safe_marks);
+    let lists = Lists {
+        safe: list_blocks(&set.cells, &set.cell_ends, set.blocks, &safe_marks),
+        mines: list_blocks(&set.cells, &set.cell_ends, set.blocks, &mine_marks),
+    };
     let known = marked_in_one(&mine_marks, &safe_marks);
     Subtracted {
         mine_marks,
         known,
-        safe,
-        mines,
+        lists,
     }
 }
 
 // solve_minus on blocks: its own lists, then those of the direct rule on what is left, and the blocks that this leaves, split once more.
-pub fn minus_rule(set: BlockSet) -> RuleAnswer
+pub fn minus_rule(set: BlockSet) -> Result<RuleAnswer, Contradiction>
     requires whole { Whole set }
     requires ready { Ready (blocks_of set) }
     ensures value { result ≡ rule_answer (subtraction (blocks_of set)) }
-    ensures whole_2 { Whole result.left }
+    ensures left_whole { IfOk result (λ (answer : RuleAnswer). Whole answer.left) }
 {
-    let own = subtract(set);
-    let marks = own.mine_marks;
-    let known = own.known;
-    let rule = direct_rule(left_blocks(set, &marks, &known, true));
-    if rule.contradiction {
-        return rule;
-    }
-    RuleAnswer {
-        contradiction: false,
-        safe: append(own.safe, rule.safe),
-        mines: append(own.mines, rule.mines),
+    let own = subtract(&set);
+    let rule = direct_rule(left_blocks(set, &own.mine_marks, &own.known, true))?;
+    Ok(RuleAnswer {
+        lists: own.lists.followed_by(rule.lists),
         left: chunk_matrixes(rule.left),
-    }
+    })
 }
 
 // What solve_minus finds in blocks, its two lists alone: its own, then those of the sweeps over all equations that are left. No block is written anew.
@@ -195,15 +183,14 @@ pub fn minus_cells(set: BlockSet) -> Lists
     requires ready { Ready (blocks_of set) }
     ensures { result ≡ minus_lists (blocks_of set) }
 {
-    let own = subtract(set);
-    let marks = own.mine_marks;
-    let known = own.known;
-    let slots = set.slots;
-    let rests = set.rests;
+    let own = subtract(&set);
     let equations = begin_at(&set.equation_ends, set.blocks);
-    let more = sweep_left(&slots, &rests, equations, &marks, &known);
-    Lists {
-        safe: append(own.safe, more.safe),
-        mines: append(own.mines, more.mines),
-    }
+    let more = sweep_left(
+        &set.slots,
+        &set.rests,
+        equations,
+        &own.mine_marks,
+        &own.known,
+    );
+    own.lists.followed_by(more)
 }

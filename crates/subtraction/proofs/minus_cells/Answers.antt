@@ -1,9 +1,8 @@
 -- `subtraction::minus_cells` meets its contract: what the sweeps find in all that its own marks leave goes behind its own lists. There is room for both, since
 -- they are cells of the set. Rests on the laws of the rule's lists on a set. Assumes nothing.
-use borrow.Author.Rules.{rules}
 use Rattle.blocks.proofs.Behind.{blocks_few}
 use Rattle.direct.proofs.WholeSets.{equations_of_all, slots_of_all}
-use Rattle.subtraction.proofs.MinusLists.{both_mines_fit, both_safe_fit, both_answered}
+use Rattle.subtraction.proofs.MinusLists.{both_fit, both_answered}
 use Rattle.subtraction.proofs.minus_cells.Goals as goal
 
 pub begin_at-equations-requires : goal.begin_at-equations-requires
@@ -12,13 +11,10 @@ begin_at-equations-requires c = blocks_few c.args.set c.requires.whole
 pub sweep_left-more-requires : goal.sweep_left-more-requires
 sweep_left-more-requires c = record { slots = slots_of_all c.args.set c.requires.whole _ c.begin_at-equations.ensures; equations_value = rw (equations_of_all c.args.set c.requires.whole _ c.begin_at-equations.ensures) c.requires.whole.fits.small }
 
-pub append-requires : goal.append-requires
-append-requires c = both_safe_fit c.args.set c.requires.whole c.requires.ready c.subtract-own.result c.subtract-own.ensures _ c.begin_at-equations.ensures c.sweep_left-more.result c.sweep_left-more.ensures
-
-pub append-requires-2 : goal.append-requires-2
-append-requires-2 c = both_mines_fit c.args.set c.requires.whole c.requires.ready c.subtract-own.result c.subtract-own.ensures _ c.begin_at-equations.ensures c.sweep_left-more.result c.sweep_left-more.ensures
+pub followed_by-requires : goal.followed_by-requires
+followed_by-requires c = both_fit c.args.set c.requires.whole c.requires.ready c.subtract-own.result c.subtract-own.ensures _ c.begin_at-equations.ensures c.sweep_left-more.result c.sweep_left-more.ensures
 
 pub returns : goal.returns
 returns c =
     both_answered c.args.set c.requires.whole c.requires.ready c.subtract-own.result c.subtract-own.ensures _ c.begin_at-equations.ensures c.sweep_left-more.result c.sweep_left-more.ensures
-    _ c.append.ensures _ c.append-2.ensures
+    _ c.followed_by.ensures

@@ -2,7 +2,6 @@
 -- lists on a set. Assumes nothing.
 use mathlib.Core.Path.{refl}
 use native.Mathlib.Omega.{arith}
-use borrow.Author.Rules.{rules}
 use Rattle.blocks.specs.BlockSets.{blocks_of}
 use Rattle.blocks.proofs.Behind.{blocks_held, blocks_few}
 use Rattle.blocks.proofs.Standing.{arrays_in}
@@ -14,7 +13,7 @@ use Rattle.subtraction.proofs.subtract.Goals as goal
 -- ---- the needs
 pub subtract_blocks-requires : goal.subtract_blocks-requires
 subtract_blocks-requires c =
-    let set = c.args.set in
+    let set = c.args.set.now in
     let whole = c.requires.whole in record {
       blocks_bound = blocks_few set whole;
       by_index = λ b h. (
@@ -24,14 +23,14 @@ subtract_blocks-requires c =
       mines_len = (refl, refl);
     }
 
-pub list_blocks-mines-requires : goal.list_blocks-mines-requires
-list_blocks-mines-requires c = record { parts = parts c.args.set c.requires.whole; blocks_len_bound = mines_fit c.args.set c.requires.whole c.requires.ready _ c.subtract_blocks.new.safe c.subtract_blocks.ensures.by_index_2 c.subtract_blocks.ensures.by_index_3 }
+pub list_blocks-requires : goal.list_blocks-requires
+list_blocks-requires c = record { parts = parts c.args.set.now c.requires.whole; blocks_len_bound = safe_fit c.args.set.now c.requires.whole c.requires.ready c.subtract_blocks.new.mines _ c.subtract_blocks.ensures.by_index_2 c.subtract_blocks.ensures.by_index_3 }
 
-pub list_blocks-safe-requires : goal.list_blocks-safe-requires
-list_blocks-safe-requires c = record { parts = parts c.args.set c.requires.whole; blocks_len_bound = safe_fit c.args.set c.requires.whole c.requires.ready c.subtract_blocks.new.mines _ c.subtract_blocks.ensures.by_index_2 c.subtract_blocks.ensures.by_index_3 }
+pub list_blocks-requires-2 : goal.list_blocks-requires-2
+list_blocks-requires-2 c = record { parts = parts c.args.set.now c.requires.whole; blocks_len_bound = mines_fit c.args.set.now c.requires.whole c.requires.ready _ c.subtract_blocks.new.safe c.subtract_blocks.ensures.by_index_2 c.subtract_blocks.ensures.by_index_3 }
 
 pub returns : goal.returns
 returns c =
     let k = c.marked_in_one-known in
-    subtracted c.args.set c.requires.whole c.requires.ready c.subtract_blocks.new.mines c.subtract_blocks.new.safe c.subtract_blocks.ensures.by_index_2 c.subtract_blocks.ensures.by_index_3
-    _ k.ensures _ c.list_blocks-mines.ensures _ c.list_blocks-safe.ensures
+    subtracted c.args.set.now c.requires.whole c.requires.ready c.subtract_blocks.new.mines c.subtract_blocks.new.safe c.subtract_blocks.ensures.by_index_2 c.subtract_blocks.ensures.by_index_3
+    _ k.ensures _ c.list_blocks-2.ensures _ c.list_blocks.ensures

@@ -3,12 +3,9 @@
 use mathlib.Core.Path.{◌≡◌}
 use Prim.Native.Nat.{◌-◌}
 use native.Mathlib.Omega.{arith}
-use lib.ListN.{length}
 use borrow.Author.Rules.{rules}
-use Rattle.lists.specs.Lists.{range}
 use Rattle.lists.proofs.Members.{range_more, range_none}
-use Rattle.subtraction.proofs.MarkedSoFar.{MarkedSoFar, marked_start, marked_next, marked_end}
-use Rattle.subtraction.proofs.Pairs.{mines_in, safe_in}
+use Rattle.subtraction.proofs.MarkedSoFar.{marked_start, marked_next, marked_end}
 use Rattle.subtraction.proofs.subtract_blocks.Goals as goal
 
 pub loop-b-init : goal.loop-b-init

@@ -1,16 +1,11 @@
 -- `subtraction::subtract_from` meets its contract. The loop's invariant: the marks, with what the equation marks beside those from place f on, are the marks
 -- at the start with what it marks beside all of them. The measure is what is left. Rests on the laws of marks so far and of pairs. Assumes nothing.
-use mathlib.Core.Path.{◌≡◌}
-use mathlib.Core.Logic.{⊎_elim}
-use Prim.Native.Nat.{◌-◌}
 use native.Mathlib.Omega.{arith}
-use lib.ListN.{length}
 use borrow.Author.Rules.{rules}
-use Rattle.blocks.specs.Places.{OnBoard, equations_from}
+use Rattle.blocks.specs.Places.{OnBoard}
 use Rattle.blocks.proofs.Between.{equations_more, equations_none, listed_on_board}
-use Rattle.subtraction.specs.Pairs.{equation_in}
-use Rattle.subtraction.proofs.MarkedSoFar.{MarkedSoFar, marked_start, marked_next, marked_pass, marked_end}
-use Rattle.subtraction.proofs.Pairs.{mines_beside, safe_beside, own_marked, shared_few, pair_apart, pair_found, pair_other}
+use Rattle.subtraction.proofs.MarkedSoFar.{marked_start, marked_next, marked_pass, marked_end}
+use Rattle.subtraction.proofs.Pairs.{own_marked, shared_few, pair_apart, pair_found, pair_other}
 use Rattle.subtraction.proofs.subtract_from.Goals as goal
 use Rattle.subtraction.proofs.subtract_from.Goals.{After-slots_at-list, After-slots_at-other, else-shared-gt0, then-shared-gt0+else-rest-shared, then-shared-gt0+then-rest-shared}
 

@@ -1,14 +1,9 @@
 use mathlib.Core.Path.{◌≡◌}
-use mathlib.Core.Logic.{⊎_elim}
-use Prim.Native.Nat.{◌-◌}
-use native.Mathlib.Omega.{arith}
 use lib.ListN.{length}
-use borrow.Author.Rules.{rules}
-use Rattle.blocks.specs.Places.{OnBoard, equations_from}
-use Rattle.blocks.proofs.Between.{equations_more, equations_none, listed_on_board}
+use Rattle.blocks.specs.Places.{equations_from}
 use Rattle.subtraction.specs.Pairs.{equation_in}
-use Rattle.subtraction.proofs.MarkedSoFar.{MarkedSoFar, marked_start, marked_next, marked_pass, marked_end}
-use Rattle.subtraction.proofs.Pairs.{mines_beside, safe_beside, own_marked, shared_few, pair_apart, pair_found, pair_other}
+use Rattle.subtraction.proofs.MarkedSoFar.{MarkedSoFar}
+use Rattle.subtraction.proofs.Pairs.{mines_beside, safe_beside}
 use Rattle.subtraction.proofs.subtract_from.Given as goal
 
 abbrev pub invariant-loop-f : goal.invariant-loop-f

@@ -1,13 +1,8 @@
 -- `subtraction::subtract_pairs` meets its contract. The loop's invariant: the marks, with what the equations from place e on mark beside all of them, are the
 -- marks at the start with what all pairs mark. The measure is what is left. Rests on the laws of marks so far. Assumes nothing.
-use mathlib.Core.Path.{◌≡◌}
-use Prim.Native.Nat.{◌-◌}
-use lib.ListN.{length}
 use borrow.Author.Rules.{rules}
-use Rattle.blocks.specs.Places.{equations_from}
 use Rattle.blocks.proofs.Between.{equations_more, equations_none}
-use Rattle.subtraction.proofs.MarkedSoFar.{MarkedSoFar, marked_start, marked_next, marked_end}
-use Rattle.subtraction.proofs.Pairs.{mines_among, safe_among}
+use Rattle.subtraction.proofs.MarkedSoFar.{marked_start, marked_next, marked_end}
 use Rattle.subtraction.proofs.subtract_pairs.Goals as goal
 
 pub loop-e-init : goal.loop-e-init

@@ -1,10 +1,7 @@
 use mathlib.Core.Path.{◌≡◌}
-use Prim.Native.Nat.{◌-◌}
 use lib.ListN.{length}
-use borrow.Author.Rules.{rules}
 use Rattle.blocks.specs.Places.{equations_from}
-use Rattle.blocks.proofs.Between.{equations_more, equations_none}
-use Rattle.subtraction.proofs.MarkedSoFar.{MarkedSoFar, marked_start, marked_next, marked_end}
+use Rattle.subtraction.proofs.MarkedSoFar.{MarkedSoFar}
 use Rattle.subtraction.proofs.Pairs.{mines_among, safe_among}
 use Rattle.subtraction.proofs.subtract_pairs.Given as goal
 

@@ -2,14 +2,12 @@
 -- the whole. The measure is their number. Rests on the laws of `Adding`. Assumes nothing.
 use Prim.Native.Nat.{◌+◌, ◌-◌, ◌≤◌, ◌<◌}
 use mathlib.Core.Path.{◌≡◌, refl}
-use mathlib.Core.Logic.{⊎_elim}
 use native.Mathlib.Omega.{arith}
-use lib.ListN.{length, take}
+use lib.ListN.{length}
 use borrow.Author.Rules.{rules}
 use borrow.Author.Tests.{eq-eqb, ne_eqb}
-use Rattle.lists.specs.Lists.{add_new}
 use Rattle.blocks.proofs.MarkLaws.{list_below}
-use Rattle.direct.proofs.ListedCells.{listed_room, back_unmarked, Adding, adding_end, adding_known, adding_old, adding_new}
+use Rattle.direct.proofs.ListedCells.{listed_room, adding_end, adding_known, adding_old, adding_new}
 use Rattle.direct.proofs.direct.add_unmarked.Goals as goal
 use Rattle.direct.proofs.direct.add_unmarked.Goals.{After-from_last-k, After-wide-c, Then-marks-c-ne1, else-there-c-ne1, then-there-c-ne1+else-marks-c-ne1, then-there-c-ne1+then-marks-c-ne1}
 

@@ -3,16 +3,17 @@
 -- has. Rests on the laws of all blocks at once. Assumes nothing.
 use mathlib.Core.Path.{◌≡◌, sym, ap, ◌∙◌}
 use mathlib.Core.List.{List, map}
-use borrow.Author.Rules.{rules}
 use Rattle.blocks.specs.Blocks.{Block}
 use Rattle.blocks.specs.BlockSets.{all_equations, block_set, blocks_of}
 use Rattle.chunks.specs.Chunks.{chunk_matrixes}
-use Rattle.direct.specs.Direct.{direct_left, negative}
+use Rattle.direct.specs.Direct.{direct_left, negative, direct}
 use Rattle.direct.specs.Answers.{Sweeps}
 use Rattle.direct.proofs.WholeSets.{few_equations, equations_of_all, slots_of_all, negative_of_all}
 use Rattle.direct.proofs.LeftByMarks.{left_of_all}
 use Rattle.direct.proofs.SmallerBlocks.{direct_fits}
-use Rattle.direct.proofs.DirectAnswer.{answer_contradicted, contradicted_whole, answer_found}
+use Rattle.direct.proofs.DirectAnswer.{answer_found}
+use Rattle.direct.proofs.RuleAnswers.{answer_err}
+use Rattle.direct.proofs.DirectLaws.{direct_contradiction}
 use Rattle.blocks.proofs.Reading.{blocks_of_set}
 use Rattle.blocks.proofs.Behind.{blocks_few}
 use Rattle.direct.proofs.direct.direct_rule.Goals as goal
@@ -47,7 +48,7 @@ left_made c =
     c.left_blocks-left.ensures.value
     ∙ ap block_set
     (left_of_all (all_blocks c) c.requires.ready c.requires.whole.fits.on_board r.mine_marks r.safe_marks _
-    w.mines_marked w.safe_marked_lem c.marked_in_one-known.ensures)
+    w.mines_marked w.safe_marked c.marked_in_one-known.ensures)
 
 -- and reads as that
 left_read : (c : After-left_blocks-left) → blocks_of c.left_blocks-left.result ≡ map direct_left (all_blocks c)
@@ -57,8 +58,8 @@ left_read c =
 pub begin_at-end-requires : goal.begin_at-end-requires
 begin_at-end-requires c = let l = c.left_blocks-left in blocks_few l.result l.ensures.whole
 
-pub has_negative-requires : goal.has_negative-requires
-has_negative-requires c = let l = c.left_blocks-left in few_equations l.result l.ensures.whole _ c.begin_at-end.ensures
+pub shared_ref_as_front-rests : goal.shared_ref_as_front-rests
+shared_ref_as_front-rests c = let l = c.left_blocks-left in few_equations l.result l.ensures.whole _ c.begin_at-end.ensures
 
 -- an equation of it is negative exactly where one that the direct rule leaves is
 negative_asked : (c : After-has_negative) → c.has_negative.result ≡ negative (map direct_left (all_blocks (goal.at.After-has_negative c).After-left_blocks-left))
@@ -67,7 +68,9 @@ negative_asked c =
     c.has_negative.ensures ∙ negative_of_all l.result l.ensures.whole _ c.begin_at-end.ensures ∙ ap negative (left_read (goal.at.After-has_negative c).After-left_blocks-left)
 
 pub returns-then-has_negative : goal.returns-then-has_negative
-returns-then-has_negative c = record { value = answer_contradicted (all_blocks (goal.at.returns-then-has_negative c).After-left_blocks-left) c.contradiction.result (sym (negative_asked (goal.at.returns-then-has_negative c).After-has_negative) ∙ c.if-has_negative.true) c.contradiction.ensures; whole_2 = contradicted_whole c.contradiction.result c.contradiction.ensures }
+returns-then-has_negative c =
+    let bs = all_blocks (goal.at.returns-then-has_negative c).After-left_blocks-left in
+    record { value = answer_err (direct bs) _ (direct_contradiction bs ∙ sym (negative_asked (goal.at.returns-then-has_negative c).After-has_negative) ∙ c.if-has_negative.true); left_whole = tt }
 
 pub chunk_matrixes-requires : goal.chunk_matrixes-requires
 chunk_matrixes-requires c = c.left_blocks-left.ensures.whole
@@ -77,5 +80,5 @@ returns c =
     record {
       value = answer_found (all_blocks (goal.at.returns c).After-left_blocks-left) c.requires.ready (sym (negative_asked (goal.at.returns c).After-has_negative) ∙ c.if-has_negative.false) c.sweep-found.result (swept (goal.at.returns c).After-sweep-found) _
           (c.chunk_matrixes.ensures.value ∙ ap (λ (bs : List Block). block_set (chunk_matrixes bs)) (left_read (goal.at.returns c).After-left_blocks-left));
-      whole_2 = c.chunk_matrixes.ensures.whole;
+      left_whole = c.chunk_matrixes.ensures.whole;
     }

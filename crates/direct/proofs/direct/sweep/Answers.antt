@@ -15,7 +15,7 @@ returns c =
     let record { listed_2 = safe; out_after = safe_are } = c.sweep_safe-safe_count.ensures in
     let record { listed_2 = mines; out_after = mines_are } = c.sweep_mines-mine_count.ensures in
     record {
-      safe_marked_lem = rw safe_are at safe.shown;
+      safe_marked = rw safe_are at safe.shown;
       safe_are = listed_is _ _ _ safe _ safe_are;
       mines_marked = rw mines_are at mines.shown;
       mines_are = listed_is _ _ _ mines _ mines_are;

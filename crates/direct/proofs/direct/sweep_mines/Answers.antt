@@ -1,14 +1,12 @@
 -- `rules::direct::sweep_mines` meets its contract. The loop's invariant: what is listed, with what the first e equations still add, is the whole list of
 -- mines. The measure is e. Rests on the laws of `Sweeping`. Assumes nothing.
-use Prim.Native.Nat.{◌≤◌}
 use mathlib.Core.Path.{refl}
 use native.Mathlib.Omega.{arith}
 use borrow.Author.Rules.{rules}
-use Rattle.blocks.specs.Blocks.{BlockEquation}
-use Rattle.blocks.specs.Places.{OnBoard, equations_from}
+use Rattle.blocks.specs.Places.{OnBoard}
 use Rattle.blocks.proofs.Between.{listed_on_board}
-use Rattle.direct.specs.Direct.{full, sure_mines}
-use Rattle.direct.proofs.Sweeps.{Sweeping, sweeping_end, sweeping_given, sweeping_passed, equations_back, equations_before, asked_full, asked_not_full, added_all}
+use Rattle.direct.specs.Direct.{sure_mines}
+use Rattle.direct.proofs.Sweeps.{sweeping_end, sweeping_given, sweeping_passed, equations_back, equations_before, asked_full, asked_not_full, added_all}
 use Rattle.direct.proofs.direct.sweep_mines.Goals as goal
 use Rattle.direct.proofs.direct.sweep_mines.Goals.{After-slots_at-list}
 

@@ -1,12 +1,8 @@
 use Prim.Native.Nat.{◌≤◌}
-use mathlib.Core.Path.{refl}
-use native.Mathlib.Omega.{arith}
-use borrow.Author.Rules.{rules}
 use Rattle.blocks.specs.Blocks.{BlockEquation}
-use Rattle.blocks.specs.Places.{OnBoard, equations_from}
-use Rattle.blocks.proofs.Between.{listed_on_board}
+use Rattle.blocks.specs.Places.{equations_from}
 use Rattle.direct.specs.Direct.{full, sure_mines}
-use Rattle.direct.proofs.Sweeps.{Sweeping, sweeping_end, sweeping_given, sweeping_passed, equations_back, equations_before, asked_full, asked_not_full, added_all}
+use Rattle.direct.proofs.Sweeps.{Sweeping}
 use Rattle.direct.proofs.direct.sweep_mines.Given as goal
 
 abbrev pub invariant-loop-e : goal.invariant-loop-e

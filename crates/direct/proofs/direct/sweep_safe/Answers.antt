@@ -6,8 +6,7 @@ use native.Mathlib.Omega.{arith}
 use borrow.Author.Rules.{rules}
 use Rattle.blocks.specs.Places.{OnBoard, equations_from}
 use Rattle.blocks.proofs.Between.{listed_on_board}
-use Rattle.direct.specs.Direct.{sure_mines, sure_safe}
-use Rattle.direct.proofs.Sweeps.{Sweeping, sweeping_end, sweeping_given, sweeping_passed, equations_back, equations_before, none_left, other_cells, safe_asked_of_all, counted_few, asked_none_left, asked_some_left, added_others}
+use Rattle.direct.proofs.Sweeps.{sweeping_end, sweeping_given, sweeping_passed, equations_back, equations_before, safe_asked_of_all, counted_few, asked_none_left, asked_some_left, added_others}
 use Rattle.direct.proofs.direct.sweep_safe.Goals as goal
 use Rattle.direct.proofs.direct.sweep_safe.Goals.{After-count_marked, After-slots_at-list}
 

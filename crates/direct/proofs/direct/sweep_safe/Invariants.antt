@@ -1,11 +1,7 @@
 use Prim.Native.Nat.{◌≤◌}
-use mathlib.Core.Path.{sym}
-use native.Mathlib.Omega.{arith}
-use borrow.Author.Rules.{rules}
-use Rattle.blocks.specs.Places.{OnBoard, equations_from}
-use Rattle.blocks.proofs.Between.{listed_on_board}
+use Rattle.blocks.specs.Places.{equations_from}
 use Rattle.direct.specs.Direct.{sure_mines, sure_safe}
-use Rattle.direct.proofs.Sweeps.{Sweeping, sweeping_end, sweeping_given, sweeping_passed, equations_back, equations_before, none_left, other_cells, safe_asked_of_all, counted_few, asked_none_left, asked_some_left, added_others}
+use Rattle.direct.proofs.Sweeps.{Sweeping, none_left, other_cells}
 use Rattle.direct.proofs.direct.sweep_safe.Given as goal
 
 abbrev pub invariant-loop-e : goal.invariant-loop-e

@@ -1,5 +1,4 @@
 -- `rules::direct::swept_cells` meets its contract: it hands on the lists of the sweeps. Rests on `lists_swept`. Assumes nothing.
-use borrow.Author.Rules.{rules}
 use Rattle.direct.proofs.DirectAnswer.{lists_swept}
 use Rattle.direct.proofs.direct.swept_cells.Goals as goal
 

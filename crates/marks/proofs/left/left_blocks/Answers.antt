@@ -1,18 +1,13 @@
 -- `marks::left::left_blocks` meets its contract. The loop's invariant: the blocks put so far, with what is left of the set's blocks from place b on, are what is left
 -- of all of them. The measure is what is left of the set. Rests on the laws of `Growing` and on `left_small`. Assumes nothing.
-use Prim.Native.Nat.{ℕ, ◌-◌, ◌<◌}
-use mathlib.Core.List.{List}
+use Prim.Native.Nat.{◌<◌}
 use native.Mathlib.Omega.{arith}
-use lib.ListN.{length, drop}
+use lib.ListN.{length}
 use Rattle.blocks.specs.BlockSets.{blocks_of}
-use Rattle.blocks.specs.declared.BlockSet.{BlockSet}
-use Rattle.blocks.proofs.Behind.{Growing, blocks_held}
+use Rattle.blocks.proofs.Behind.{blocks_held}
 use Rattle.blocks.proofs.Standing.{arrays_in}
-use Rattle.marks.specs.Marked.{left_blocks}
 use Rattle.marks.proofs.LeftInSet.{left_start, left_room_in, left_next, left_end}
-use borrow.Author.Rules.{rules}
 use Rattle.marks.proofs.left.left_blocks.Goals as goal
-use Rattle.marks.proofs.left.left_blocks.Invariants.{held}
 
 pub loop-b-init : goal.loop-b-init
 loop-b-init c = left_start c.args.subtracted c.args.mines.now c.args.known.now c.args.set c.requires _ c.empty_set-out.ensures

@@ -3,8 +3,7 @@ use native.Mathlib.Omega.{arith}
 use lib.ListN.{take, length-take}
 use Rattle.lists.proofs.Counts.{count_le}
 use Rattle.blocks.specs.Places.{marked}
-use borrow.Author.Rules.{rules}
 use Rattle.marks.proofs.left.left_rest.Goals as goal
 
-pub overflow_cast-known : goal.overflow_cast-known
-overflow_cast-known c = omega (arith, c.count_marked-known.ensures, c.requires.few, count_le (marked c.args.mines.now) (take c.args.list.len c.args.list.cells), length-take c.args.list.len c.args.list.cells)
+pub overflow_cast-count_marked : goal.overflow_cast-count_marked
+overflow_cast-count_marked c = omega (arith, count_le (marked c.args.mines.now) (take c.args.list.len c.args.list.cells), length-take c.args.list.len c.args.list.cells)

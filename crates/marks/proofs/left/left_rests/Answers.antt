@@ -1,17 +1,15 @@
 -- `marks::left::left_rests` meets its contract. The loop's invariant: the remainders of the equations from place e on that stay, stored from place k on, give what
 -- all of them give from `at` on. The measure is what is left. Rests on the laws of `Storing`. Assumes nothing.
-use Prim.Native.Nat.{ℕ, ◌-◌, ◌<◌}
+use Prim.Native.Nat.{ℕ, ◌<◌}
 use mathlib.Core.Path.{◌≡◌, refl, sym, ap, ◌∙◌}
-use mathlib.Core.List.{List, [], ◌∷◌}
-use mathlib.Core.Logic.{⊎_elim}
+use mathlib.Core.List.{List}
 use native.Mathlib.Omega.{arith}
 use lib.ListN.{set}
 use lib.Seq.{sets}
-use Rattle.lists.proofs.Storing.{Storing, storing_start, storing_room, storing_next, storing_pass, storing_end, single_store, single_stored}
+use Rattle.lists.proofs.Storing.{storing_start, storing_room, storing_next, storing_pass, storing_end, single_store, single_stored}
 use Rattle.blocks.proofs.Between.{listed_on_board}
 use Rattle.marks.specs.Marked.{stays}
 use Rattle.marks.proofs.LeftEquations.{left_at, left_places, left_kept, left_passed, left_none, left_count, left_rests_are, left_rest_is}
-use borrow.Author.Rules.{rules}
 use Rattle.marks.proofs.left.left_rests.Goals as goal
 use Rattle.marks.proofs.left.left_rests.Goals.{After-left_rest-rest, After-rest_stays, Then-rest_stays, else-rest_stays, then-rest_stays}
 

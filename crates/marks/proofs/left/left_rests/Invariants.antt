@@ -1,15 +1,7 @@
-use Prim.Native.Nat.{ℕ, ◌-◌, ◌<◌}
-use mathlib.Core.Path.{◌≡◌, refl, sym, ap, ◌∙◌}
-use mathlib.Core.List.{List, [], ◌∷◌}
-use mathlib.Core.Logic.{⊎_elim}
-use native.Mathlib.Omega.{arith}
-use lib.ListN.{set}
-use lib.Seq.{sets}
-use Rattle.lists.proofs.Storing.{Storing, storing_start, storing_room, storing_next, storing_pass, storing_end, single_store, single_stored}
-use Rattle.blocks.proofs.Between.{listed_on_board}
-use Rattle.marks.specs.Marked.{stays}
-use Rattle.marks.proofs.LeftEquations.{left_at, left_places, left_kept, left_passed, left_none, left_count, left_rests_are, left_rest_is}
-use borrow.Author.Rules.{rules}
+use Prim.Native.Nat.{ℕ}
+use mathlib.Core.List.{[], ◌∷◌}
+use Rattle.lists.proofs.Storing.{Storing}
+use Rattle.marks.proofs.LeftEquations.{left_at, left_places}
 use Rattle.marks.proofs.left.left_rests.Given as goal
 
 abbrev pub invariant-loop-e : goal.invariant-loop-e

@@ -1,17 +1,14 @@
 -- `marks::left::left_slots` meets its contract. The loop's invariant: the equations from place e on that stay, stored from place k on, give what all of them give
 -- from `at` on, eight slots each. The measure is what is left. Rests on the laws of `Storing`. Assumes nothing.
-use Prim.Native.Nat.{ℕ, ◌-◌, ◌*◌, ◌<◌}
+use Prim.Native.Nat.{ℕ, ◌*◌, ◌<◌}
 use mathlib.Core.Path.{◌≡◌, sym, ap, ◌∙◌}
 use mathlib.Core.List.{List}
-use mathlib.Core.Logic.{⊎_elim}
 use native.Mathlib.Omega.{arith}
 use lib.Seq.{sets}
-use Rattle.lists.proofs.Storing.{Storing, storing_start, storing_room, storing_next, storing_pass, storing_end}
-use Rattle.blocks.specs.BlockSets.{slots_of}
+use Rattle.lists.proofs.Storing.{storing_start, storing_room, storing_next, storing_pass, storing_end}
 use Rattle.blocks.proofs.Between.{listed_on_board}
 use Rattle.marks.specs.Marked.{stays}
-use Rattle.marks.proofs.LeftEquations.{left_at, left_places, left_kept, left_passed, left_none, left_count, left_slots_are, left_eight, left_rest_is, left_list_few, left_list_slots}
-use borrow.Author.Rules.{rules}
+use Rattle.marks.proofs.LeftEquations.{left_at, left_kept, left_passed, left_none, left_count, left_slots_are, left_eight, left_rest_is, left_list_few, left_list_slots}
 use Rattle.marks.proofs.left.left_slots.Goals as goal
 use Rattle.marks.proofs.left.left_slots.Goals.{After-rest_stays, Then-rest_stays, else-rest_stays, then-rest_stays}
 

@@ -1,15 +1,7 @@
-use Prim.Native.Nat.{ℕ, ◌-◌, ◌*◌, ◌<◌}
-use mathlib.Core.Path.{◌≡◌, sym, ap, ◌∙◌}
-use mathlib.Core.List.{List}
-use mathlib.Core.Logic.{⊎_elim}
-use native.Mathlib.Omega.{arith}
-use lib.Seq.{sets}
-use Rattle.lists.proofs.Storing.{Storing, storing_start, storing_room, storing_next, storing_pass, storing_end}
+use Prim.Native.Nat.{ℕ}
+use Rattle.lists.proofs.Storing.{Storing}
 use Rattle.blocks.specs.BlockSets.{slots_of}
-use Rattle.blocks.proofs.Between.{listed_on_board}
-use Rattle.marks.specs.Marked.{stays}
-use Rattle.marks.proofs.LeftEquations.{left_at, left_places, left_kept, left_passed, left_none, left_count, left_slots_are, left_eight, left_rest_is, left_list_few, left_list_slots}
-use borrow.Author.Rules.{rules}
+use Rattle.marks.proofs.LeftEquations.{left_at, left_places}
 use Rattle.marks.proofs.left.left_slots.Given as goal
 
 abbrev pub invariant-loop-e : goal.invariant-loop-e

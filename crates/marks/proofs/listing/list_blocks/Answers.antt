@@ -1,13 +1,12 @@
 -- `marks::listing::list_blocks` meets its contract. The loop's invariant: the marked cells of the first b blocks, from the last block to the first, stored from
 -- place k on, give what those of all blocks give from the start. The measure is b. Rests on the laws of `Storing`. Assumes nothing.
-use Prim.Native.Nat.{ℕ, ◌-◌, ◌≤◌}
+use Prim.Native.Nat.{ℕ, ◌-◌}
 use mathlib.Core.Path.{refl}
-use mathlib.Core.List.{[], ◌∷◌}
 use native.Mathlib.Omega.{arith}
 use native.Mathlib.Nat.{zero-add}
-use lib.ListN.{length, get_or, replicate}
+use lib.ListN.{length, get_or}
 use Rattle.lists.proofs.Joined.{filled_sets}
-use Rattle.lists.proofs.Storing.{Storing, storing_start}
+use Rattle.lists.proofs.Storing.{storing_start}
 use Rattle.blocks.specs.BlockSets.{begin_at}
 use Rattle.marks.specs.Marked.{cells_with, all_with}
 use Rattle.marks.proofs.ByMarks.{all_last, all_none}

@@ -1,16 +1,8 @@
-use Prim.Native.Nat.{ℕ, ◌-◌, ◌≤◌}
-use mathlib.Core.Path.{refl}
+use Prim.Native.Nat.{ℕ, ◌≤◌}
 use mathlib.Core.List.{[], ◌∷◌}
-use native.Mathlib.Omega.{arith}
-use native.Mathlib.Nat.{zero-add}
-use lib.ListN.{length, get_or, replicate}
-use Rattle.lists.proofs.Joined.{filled_sets}
-use Rattle.lists.proofs.Storing.{Storing, storing_start}
-use Rattle.blocks.specs.BlockSets.{begin_at}
-use Rattle.marks.specs.Marked.{cells_with, all_with}
-use Rattle.marks.proofs.ByMarks.{all_last, all_none}
-use Rattle.lists.proofs.StoredAndKept.{run_room, run_next, run_end}
-use borrow.Author.Rules.{rules}
+use lib.ListN.{replicate}
+use Rattle.lists.proofs.Storing.{Storing}
+use Rattle.marks.specs.Marked.{all_with}
 use Rattle.marks.proofs.listing.list_blocks.Given as goal
 
 abbrev pub invariant-loop-b : goal.invariant-loop-b

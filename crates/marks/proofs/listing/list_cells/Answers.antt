@@ -1,17 +1,13 @@
 -- `marks::listing::list_cells` meets its contract. The loop's invariant: the cells from place i on that have the mark, stored from place k on, give what all of
 -- them give from `at` on. The measure is what is left. Rests on the laws of `Storing`. Assumes nothing.
-use Prim.Native.Nat.{ℕ, ◌-◌, ◌<◌}
+use Prim.Native.Nat.{ℕ, ◌<◌}
 use mathlib.Core.Path.{refl, sym, ap, ◌∙◌}
-use mathlib.Core.List.{[], ◌∷◌}
-use mathlib.Core.Logic.{⊎_elim}
 use native.Mathlib.Omega.{arith}
 use lib.ListN.{set}
 use borrow.Author.Tests.{eq-eqb, ne_eqb}
-use Rattle.lists.proofs.Storing.{Storing, storing_start, storing_room, storing_next, storing_pass, single_store}
-use Rattle.marks.specs.Marked.{cells_with}
+use Rattle.lists.proofs.Storing.{storing_start, storing_room, storing_next, storing_pass, single_store}
 use Rattle.marks.proofs.ByMarks.{listed_kept, listed_passed, listed_none}
 use Rattle.lists.proofs.StoredAndKept.{run_end}
-use borrow.Author.Rules.{rules}
 use Rattle.marks.proofs.listing.list_cells.Goals as goal
 use Rattle.marks.proofs.listing.list_cells.Goals.{Then-marks-wide, else-marks-wide, then-marks-wide}
 

@@ -1,15 +1,7 @@
-use Prim.Native.Nat.{ℕ, ◌-◌, ◌<◌}
-use mathlib.Core.Path.{refl, sym, ap, ◌∙◌}
+use Prim.Native.Nat.{ℕ}
 use mathlib.Core.List.{[], ◌∷◌}
-use mathlib.Core.Logic.{⊎_elim}
-use native.Mathlib.Omega.{arith}
-use lib.ListN.{set}
-use borrow.Author.Tests.{eq-eqb, ne_eqb}
-use Rattle.lists.proofs.Storing.{Storing, storing_start, storing_room, storing_next, storing_pass, single_store}
+use Rattle.lists.proofs.Storing.{Storing}
 use Rattle.marks.specs.Marked.{cells_with}
-use Rattle.marks.proofs.ByMarks.{listed_kept, listed_passed, listed_none}
-use Rattle.lists.proofs.StoredAndKept.{run_end}
-use borrow.Author.Rules.{rules}
 use Rattle.marks.proofs.listing.list_cells.Given as goal
 
 abbrev pub invariant-loop-i : goal.invariant-loop-i

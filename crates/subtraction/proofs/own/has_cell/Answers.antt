@@ -1,10 +1,8 @@
 -- `subtraction::own::has_cell` meets its contract. The loop's invariant: the cell is among those from place k on exactly if it is in the list. The measure is what
 -- is left of the list. Assumes nothing.
-use Prim.Native.Nat.{◌-◌, ◌≤◌}
 use mathlib.Core.Path.{◌≡◌, refl}
-use lib.ListN.{length, take, drop}
+use lib.ListN.{length}
 use borrow.Author.Tests.{eq-eqb, ne_eqb}
-use Rattle.lists.specs.Lists.{has}
 use Rattle.lists.proofs.Counted.{counted_none}
 use Rattle.blocks.proofs.MarkLaws.{list_next}
 use borrow.Author.Rules.{rules}

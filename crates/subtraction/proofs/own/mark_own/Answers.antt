@@ -1,16 +1,12 @@
 -- `subtraction::own::mark_own` meets its contract. The loop's invariant: what is marked, with the own cells from place k on, is what was marked with all own cells.
 -- The measure is what is left of the list. Assumes nothing.
-use Prim.Native.Nat.{ℕ, ◌-◌, ◌≤◌}
 use mathlib.Core.Path.{◌≡◌, refl, sym, ap, ◌∙◌}
-use mathlib.Core.Bool.{Bool, not}
-use mathlib.Core.Logic.{⊎_elim}
+use mathlib.Core.Bool.{not}
 use native.Mathlib.Omega.{arith}
-use lib.ListN.{length, take, drop, length-set}
-use Rattle.lists.specs.Lists.{has}
+use lib.ListN.{length, length-set}
 use Rattle.lists.proofs.Counted.{counted_none}
-use Rattle.grid.specs.declared.window.UpToEight.{UpToEight}
 use Rattle.blocks.proofs.MarkLaws.{list_next, list_below}
-use Rattle.marks.proofs.MarkedCells.{marked_with, with_marked, with_passed, with_end}
+use Rattle.marks.proofs.MarkedCells.{with_marked, with_passed, with_end}
 use borrow.Author.Rules.{rules}
 use Rattle.subtraction.proofs.own.mark_own.Goals as goal
 use Rattle.subtraction.proofs.own.mark_own.Goals.{else-not-has_cell, then-not-has_cell}

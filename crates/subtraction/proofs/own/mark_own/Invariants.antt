@@ -1,15 +1,10 @@
-use Prim.Native.Nat.{ℕ, ◌-◌, ◌≤◌}
-use mathlib.Core.Path.{◌≡◌, refl, sym, ap, ◌∙◌}
+use Prim.Native.Nat.{ℕ, ◌≤◌}
+use mathlib.Core.Path.{◌≡◌}
 use mathlib.Core.Bool.{Bool, not}
-use mathlib.Core.Logic.{⊎_elim}
-use native.Mathlib.Omega.{arith}
-use lib.ListN.{length, take, drop, length-set}
+use lib.ListN.{length, take, drop}
 use Rattle.lists.specs.Lists.{has}
-use Rattle.lists.proofs.Counted.{counted_none}
 use Rattle.grid.specs.declared.window.UpToEight.{UpToEight}
-use Rattle.blocks.proofs.MarkLaws.{list_next, list_below}
-use Rattle.marks.proofs.MarkedCells.{marked_with, with_marked, with_passed, with_end}
-use borrow.Author.Rules.{rules}
+use Rattle.marks.proofs.MarkedCells.{marked_with}
 use Rattle.subtraction.proofs.own.mark_own.Given as goal
 
 -- a list lacks a cell
