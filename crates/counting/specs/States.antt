@@ -6,12 +6,8 @@ use Rattle.lists.specs.Lists.{range, keep, any}
 use Rattle.blocks.specs.BlockSets.{slot_cells}
 use Rattle.search.specs.Solutions.{sum}
 use Rattle.search.specs.Trees.{lowered}
-use Rattle.groups.specs.declared.Grouped.{Grouped}
-use Rattle.search.specs.declared.Unmet.{Unmet}
-use Rattle.search.specs.Searching.{State, unset, unset_of, tree_at, tree_of}
-use Rattle.counting.specs.declared.states.Met.{Met}
-use Rattle.counting.specs.declared.walking.Counted.{Counted}
-use Rattle.counting.specs.Counting.{counts_to, some_counts, gives, holds_mine, leaves_free, Walked}
+use Rattle.search.specs.Searching.{State, unset, tree_at}
+use Rattle.counting.specs.Counting.{counts_to, some_counts, gives, holds_mine, leaves_free}
 
 -- ---- the key of a state
 
@@ -72,23 +68,3 @@ pub record Right {order : List ℕ} {groups : ℕ} {sizes columns start_rooms : 
   pub entry : (i at count : ℕ) (needs : List ℕ) → at < groups → count ≤ 1024 → get_or tags i 0 ≡ tag_of first at count → Underway c equations at needs (c.rooms_at at)
       → key_of equations needs (c.rooms_at at) start_rooms ≡ get_or keys i 0
       → Known allowed sizes count (unset order groups at) (tree_at order groups sizes columns at needs (c.rooms_at at)) (get_or results i 0) reached mined unfilled
-
--- ---- the same of the structs that the functions are given
-
-abbrev pub CourseOf : Grouped → List ℕ → Type 0
-CourseOf g order = Course order g.groups g.sizes g.columns g.rooms
-
-abbrev pub UnderwayOf : (g : Grouped) (order : List ℕ) → CourseOf g order → ℕ → Unmet → Type 0
-UnderwayOf g order c at unmet = Underway c g.equations at unmet.needs unmet.rooms
-
-abbrev pub RightOf : (g : Grouped) (order : List ℕ) → CourseOf g order → List ℕ → ℕ → Met → Counted → Type 0
-RightOf g order c allowed first met told = Right c g.equations allowed first met.tags met.keys met.results told.reached told.mined told.unfilled
-
--- a table is right of every course of which it was before
-abbrev pub StaysRight : Grouped → List ℕ → List ℕ → ℕ → ℕ → Unmet → Met → Counted → Met → Counted → Type 0
-StaysRight g order allowed first at unmet before told_before after told_after =
-    (c : CourseOf g order) → UnderwayOf g order c at unmet → RightOf g order c allowed first before told_before → RightOf g order c allowed first after told_after
-
-abbrev pub WalkedOf : Grouped → List ℕ → List ℕ → ℕ → ℕ → Unmet → Bool → Counted → Counted → Type 0
-WalkedOf g order allowed at count unmet found before after =
-    Walked allowed g.sizes count (unset_of g order at) (tree_of g order at unmet) found before.reached before.mined before.unfilled after.reached after.mined after.unfilled

@@ -7,7 +7,7 @@ ghost use Rattle.groups.specs.Grouping.{Combinable, grouped as groupedOf};
 ghost use Rattle.counting.specs.Counting.{CountedBy};
 
 use super::states::Met;
-use super::walking::{Counted, walk};
+use super::walking::{Counted, Walk};
 use groups::Grouped;
 use search::Unmet;
 
@@ -44,8 +44,12 @@ pub fn count_block(grouped: &Grouped, allowed: &[u8; 1025], first: usize, met: &
         needs: grouped.needs,
         rooms: grouped.rooms,
     };
-    walk(
-        grouped, &order, allowed, first, 0, 0, &mut unmet, &mut told, met,
-    );
+    let walk = Walk {
+        grouped,
+        order: &order,
+        allowed,
+        first,
+    };
+    walk.walk(0, 0, &mut unmet, &mut told, met);
     told
 }

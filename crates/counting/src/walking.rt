@@ -1,12 +1,10 @@
 // The walk over a block's groups: they are set one after another, each to every value that its equations can take, and mines are counted on the way. Where no
 // group is left and every equation has what it needs, the count is one that a solution has. Of the solutions whose count is allowed the walk marks the count,
 // the groups with a mine and the groups with a free cell. A state that the table has is not gone on from again: what would be marked is marked.
-ghost use Rattle.std.specs.Prelude.{◌≡◌, true, ◌&&◌, map, ℕ, ◌+◌, ◌≤◌, ◌<◌, eqb, ltb, get_or};
+ghost use Rattle.std.specs.Prelude.{◌≡◌, true, ◌&&◌, ℕ, ◌+◌, ◌≤◌, ◌<◌, eqb, ltb, get_or};
 ghost use Rattle.lists.specs.Lists.{all};
-ghost use Rattle.search.specs.Solutions.{sum};
-ghost use Rattle.search.specs.Searching.{OrderOf, unset_of};
+ghost use Rattle.search.specs.Searching.{OrderOf};
 ghost use Rattle.counting.specs.Counting.{Marked};
-ghost use Rattle.counting.specs.States.{CourseOf, UnderwayOf, RightOf, StaysRight, WalkedOf};
 
 use super::states::{Met, key_of, place_of};
 use blocks::slots_at;
@@ -62,87 +60,91 @@ fn reach(
     true
 }
 
-// The groups from place `at` of the order on, when `count` mines are set: does some solution have an allowed count? The tags of this walk begin at `first`.
-#[cycle(walk_walk_values)]
-pub fn walk(
-    grouped: &Grouped,
-    order: &[u16; 1024],
-    allowed: &[u8; 1025],
-    first: usize,
-    at: usize,
-    count: usize,
-    unmet: &mut Unmet,
-    told: &mut Counted,
-    met: &mut Met,
-) -> bool
-    requires ordered { OrderOf grouped.now order.now }
-    requires at_le_groups { (at ≤ grouped.now.groups) × (count + sum (map (λ (g : ℕ). get_or grouped.now.sizes g 0) (unset_of grouped.now order.now at)) ≤ 1024) × (first ≤ 4000000000) }
-    requires underway { (c : CourseOf grouped.now order.now) × UnderwayOf grouped.now order.now c at unmet.old × RightOf grouped.now order.now c allowed.now first met.old told.old }
-    ensures walked { WalkedOf grouped.now order.now allowed.now at count unmet.old result told.old told.new }
-    ensures unmet_unchanged { unmet.new ≡ unmet.old }
-    ensures right { StaysRight grouped.now order.now allowed.now first at unmet.old met.old told.old met.new told.new }
-{
-    if at == grouped.groups {
-        return reach(unmet, grouped.equations, allowed, count, &mut told.reached);
-    }
-    let Some(key) = key_of(grouped.equations, unmet, &grouped.rooms) else {
-        return walk_values(grouped, order, allowed, first, at, count, unmet, told, met);
-    };
-    let tag = (first + at * 1025 + count) as u32;
-    let place = place_of(key, at, count);
-    if let Some(found) = met.found_from(place, tag, key) {
-        return found;
-    }
-    let found = walk_values(grouped, order, allowed, first, at, count, unmet, told, met);
-    met.keep_state(place, tag, key, found);
-    found
+// What a walk goes by: a block over its groups, their order, and which counts are allowed. The tags of the walk begin at `first`.
+#[derive(Clone, Copy)]
+pub struct Walk<'a> {
+    pub grouped: &'a Grouped,
+    pub order: &'a [u16; 1024],
+    pub allowed: &'a [u8; 1025],
+    pub first: usize,
+    pub ghost ordered: { OrderOf grouped.now order.now },
+    pub ghost tags_fit: { first ≤ 4000000000 },
 }
 
-// The same, through every value of the group at place `at`.
-#[cycle(walk_walk_values)]
-pub fn walk_values(
-    grouped: &Grouped,
-    order: &[u16; 1024],
-    allowed: &[u8; 1025],
-    first: usize,
-    at: usize,
-    count: usize,
-    unmet: &mut Unmet,
-    told: &mut Counted,
-    met: &mut Met,
-) -> bool
-    requires ordered { OrderOf grouped.now order.now }
-    requires at_lt_groups { (at < grouped.now.groups) × (count + sum (map (λ (g : ℕ). get_or grouped.now.sizes g 0) (unset_of grouped.now order.now at)) ≤ 1024) × (first ≤ 4000000000) }
-    requires underway { (c : CourseOf grouped.now order.now) × UnderwayOf grouped.now order.now c at unmet.old × RightOf grouped.now order.now c allowed.now first met.old told.old }
-    ensures walked { WalkedOf grouped.now order.now allowed.now at count unmet.old result told.old told.new }
-    ensures unmet_unchanged { unmet.new ≡ unmet.old }
-    ensures right { StaysRight grouped.now order.now allowed.now first at unmet.old met.old told.old met.new told.new }
-{
-    let g = wide(order[at]);
-    let size = grouped.sizes[g];
-    let list = slots_at(&grouped.columns, g);
-    let mut found = false;
-    for v in 0..=size {
-        if unmet.possible(list, size, v) {
-            unmet.set_group(list, size, v);
-            let count_below = count + wide_byte(v);
-            let below = walk(
-                grouped,
-                order,
-                allowed,
-                first,
-                at + 1,
-                count_below,
+impl<'a> Walk<'a> {
+    ghost use Rattle.counting.specs.Walks.{room_at, CourseOf, UnderwayOf, RightOf, StaysRight, WalkedOf};
+
+    // The groups from place `at` of the order on, when `count` mines are set: does some solution have an allowed count?
+    #[cycle(walk_values)]
+    pub fn walk(
+        &self,
+        at: usize,
+        count: usize,
+        unmet: &mut Unmet,
+        told: &mut Counted,
+        met: &mut Met,
+    ) -> bool
+        requires at_le_groups { (at ≤ self.now.grouped.now.groups) × (count + room_at self.now at ≤ 1024) }
+        requires underway { (c : CourseOf self.now) × UnderwayOf self.now c at unmet.old × RightOf self.now c met.old told.old }
+        ensures walked { WalkedOf self.now at count unmet.old result told.old told.new }
+        ensures unmet_unchanged { unmet.new ≡ unmet.old }
+        ensures right { StaysRight self.now at unmet.old met.old told.old met.new told.new }
+    {
+        let grouped = self.grouped;
+        if at == grouped.groups {
+            return reach(
                 unmet,
-                told,
-                met,
+                grouped.equations,
+                self.allowed,
+                count,
+                &mut told.reached,
             );
-            unmet.unset_group(list, size, v);
-            if below {
-                told.note_value(g, v, size);
-                found = true;
+        }
+        let Some(key) = key_of(grouped.equations, unmet, &grouped.rooms) else {
+            return self.walk_values(at, count, unmet, told, met);
+        };
+        let tag = (self.first + at * 1025 + count) as u32;
+        let place = place_of(key, at, count);
+        if let Some(found) = met.found_from(place, tag, key) {
+            return found;
+        }
+        let found = self.walk_values(at, count, unmet, told, met);
+        met.keep_state(place, tag, key, found);
+        found
+    }
+
+    // The same, through every value of the group at place `at`.
+    #[cycle(walk_values)]
+    pub fn walk_values(
+        &self,
+        at: usize,
+        count: usize,
+        unmet: &mut Unmet,
+        told: &mut Counted,
+        met: &mut Met,
+    ) -> bool
+        requires at_lt_groups { (at < self.now.grouped.now.groups) × (count + room_at self.now at ≤ 1024) }
+        requires underway { (c : CourseOf self.now) × UnderwayOf self.now c at unmet.old × RightOf self.now c met.old told.old }
+        ensures walked { WalkedOf self.now at count unmet.old result told.old told.new }
+        ensures unmet_unchanged { unmet.new ≡ unmet.old }
+        ensures right { StaysRight self.now at unmet.old met.old told.old met.new told.new }
+    {
+        let g = wide(self.order[at]);
+        let size = self.grouped.sizes[g];
+        let list = slots_at(&self.grouped.columns, g);
+        let mut found = false;
+        for v in 0..=size {
+            if unmet.possible(list, size, v) {
+                unmet.set_group(list, size, v);
+                let count_below = count + wide_byte(v);
+                let below = self.walk(at + 1, count_below, unmet, told, met);
+                unmet.unset_group(list, size, v);
+                if below {
+                    told.note_value(g, v, size);
+                    found = true;
+                }
             }
         }
+        found
     }
-    found
 }

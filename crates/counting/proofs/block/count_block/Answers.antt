@@ -17,6 +17,12 @@ own_order-order-requires c =
     let (b, k, is) = c.requires.combinable in
     start_few b k c.args.grouped.now is
 
+pub invariant_of-walk : goal.invariant_of-walk
+invariant_of-walk c =
+    let order = c.own_order-order in
+    let (b, k, is) = c.requires.combinable in
+    record { ordered = start_ordered b k c.args.grouped.now is order.result order.ensures; tags_fit = c.requires.tags_len.4 }
+
 pub walk-requires : goal.walk-requires
 walk-requires c =
     let order = c.own_order-order in
@@ -24,8 +30,7 @@ walk-requires c =
     let r = c.args.grouped.now in
     let met = c.args.met.now in
     record {
-      ordered = start_ordered b k r is order.result order.ensures;
-      at_le_groups = (omega arith, start_fits b k r is order.result order.ensures, c.requires.tags_len.4);
+      at_le_groups = (omega arith, start_fits b k r is order.result order.ensures);
       underway = start_walk b k r is order.result order.ensures c.args.allowed.now c.args.first met.tags met.keys met.results c.requires.tags_len;
     }
 

@@ -1,30 +1,29 @@
--- `counting::walking::walk` and `walk_values`, which call each other, meet their contracts: a state that the table has is answered from it, and any other goes through every value
+-- `Walk::walk` and `Walk::walk_values`, which call each other, meet their contracts: a state that the table has is answered from it, and any other goes through every value
 -- of its group and is then kept. The loop's invariant: the values so far are tried. The measure falls with the unset groups. Rests on Tables and TriedValues. Assumes nothing.
 use Prim.Native.Nat.{ℕ, ◌+◌, ◌≤◌}
 use mathlib.Core.Bool.{true}
 use mathlib.Core.Path.{◌≡◌, refl, sym, ◌∙◌}
 use native.Mathlib.Omega.{arith}
-use lib.ListN.{get_or}
 use Rattle.std.proofs.lemmas.Option.{cond_some}
 use Rattle.search.specs.Searching.{State, unset}
-use Rattle.search.proofs.OrderedGroups.{Group, group_at, group_place, group_small, column_is, column_on_board}
-use Rattle.search.proofs.TakenValues.{Taken, taken_on_board, taken_once, taken_needs, taken_rooms, taken_state, same_state}
+use Rattle.search.proofs.OrderedGroups.{group_at, group_place, group_small, column_is, column_on_board}
+use Rattle.search.proofs.TakenValues.{taken_on_board, taken_once, taken_needs, taken_rooms, taken_state, same_state}
 use Rattle.counting.proofs.WalkedRows.{grown_same, grown_marked, walked_known, known_walked}
 use Rattle.counting.proofs.Tables.{right_grown, right_known, right_kept}
-use Rattle.counting.proofs.TriedValues.{Tried, room_of, walked_end, tried_same, tried_none, room_behind, tried_all, tried_impossible, tried_behind, tried_found, tried_unfound}
-use Rattle.counting.proofs.walking.+walk_walk_values.Goals as goal
-use Rattle.counting.proofs.walking.+walk_walk_values.Goals.{walk_values-After-wide-g, walk_values-After-possible, walk_values-then-possible+then-below, walk_values-then-possible+else-below, walk_values-else-possible}
+use Rattle.counting.proofs.TriedValues.{GroupAt, TakenAt, Tried, room_of, walked_end, tried_same, tried_none, room_behind, tried_all, tried_impossible, tried_behind, tried_found, tried_unfound}
+use Rattle.counting.proofs.walking.Walk.+walk_values.Goals as goal
+use Rattle.counting.proofs.walking.Walk.+walk_values.Goals.{walk_values-After-wide-g, walk_values-After-possible, walk_values-then-possible+then-below, walk_values-then-possible+else-below, walk_values-else-possible}
 
 -- ---- walk
 
 pub walk-returns-then-at-grouped : goal.walk-returns-then-at-grouped
 walk-returns-then-at-grouped t c =
-    let b = c.args.grouped.now in
+    let b = c.args.self.now.grouped.now in
     let unmet = c.args.unmet.now in
     let told = c.args.told.now in
     let e = c.reach.ensures in
     record {
-      walked = walked_end c.args.order.now b.groups b.sizes b.columns c.args.allowed.now c.args.at c.args.count unmet.needs unmet.rooms told.reached _ told.mined told.unfilled _ c.if-at-grouped.true e.value e.marked;
+      walked = walked_end c.args.self.now.order.now b.groups b.sizes b.columns c.args.self.now.allowed.now c.args.at c.args.count unmet.needs unmet.rooms told.reached _ told.mined told.unfilled _ c.if-at-grouped.true e.value e.marked;
       unmet_unchanged = refl;
       right = λ k u r. right_grown k r (grown_marked e.marked) (grown_same told.mined) (grown_same told.unfilled);
     }
@@ -46,23 +45,23 @@ walk-returns t c =
       right = λ k u r.
           rw (kept.tags_after, kept.keys_after, kept.results_after)
           (right_kept k (e.right k u r) (omega (arith, c.requires.at_le_groups.0, c.if-at-grouped.false)) (omega (arith, c.requires.at_le_groups.1)) u c.place_of-place.result _ c.in-Some.key refl c.in-Some.ensures
-          _ (known_walked e.walked) c.place_of-place.ensures c.requires.ordered.few);
+          _ (known_walked e.walked) c.place_of-place.ensures c.args.self.now.ordered.few);
     }
 
 -- ---- walk_values
 
 -- the group whose values are tried
 here : (t : ℕ) (c : walk_values-After-wide-g t)
-    → Group c.args.order.now c.args.grouped.now.groups c.args.grouped.now.equations c.args.grouped.now.sizes c.args.grouped.now.columns c.args.at c.wide-g.result
-here t c = group_at c.args.at c.wide-g.result c.requires.ordered c.requires.at_lt_groups.0 c.wide-g.ensures
+    → GroupAt c.args.self.now c.args.at c.wide-g.result
+here t c = group_at c.args.at c.wide-g.result c.args.self.now.ordered c.requires.at_lt_groups.0 c.wide-g.ensures
 
 -- the state before each value
-state : (t : ℕ) (c : walk_values-After-possible t) → State c.args.grouped.now.equations c.loop-v.unmet.needs c.loop-v.unmet.rooms
+state : (t : ℕ) (c : walk_values-After-possible t) → State c.args.self.now.grouped.now.equations c.loop-v.unmet.needs c.loop-v.unmet.rooms
 state t c = same_state c.requires.underway.1.state c.loop-v.invariant.same
 
 -- a value that is possible
 taken : (t : ℕ) (o : walk_values-After-possible t) → o.possible.result ≡ true
-    → Taken o.args.order.now o.args.grouped.now.groups o.args.grouped.now.equations o.args.grouped.now.sizes o.args.grouped.now.columns o.args.at o.wide-g.result o.loop-v.unmet.needs o.loop-v.unmet.rooms o.loop-v.v (get_or o.args.grouped.now.sizes o.wide-g.result 0) o.slots_at-list.result
+    → TakenAt o.args.self.now o.args.at o.wide-g.result o.loop-v.unmet o.loop-v.v o.slots_at-list.result
 taken t o can =
     record {
       here = here t (goal.at.walk_values-After-possible t o).After-wide-g;
@@ -72,11 +71,11 @@ taken t o can =
       can = sym o.possible.ensures ∙ can;
     }
 
-pub walk_values-bounds-grouped-g : goal.walk_values-bounds-grouped-g
-walk_values-bounds-grouped-g t c = group_place (here t (goal.at.walk_values-bounds-grouped-g t c).After-wide-g)
+pub walk_values-bounds-self-g : goal.walk_values-bounds-self-g
+walk_values-bounds-self-g t c = group_place (here t (goal.at.walk_values-bounds-self-g t c).After-wide-g)
 
 pub walk_values-slots_at-list-requires : goal.walk_values-slots_at-list-requires
-walk_values-slots_at-list-requires t c = (c.requires.ordered.whole_columns, group_place (here t (goal.at.walk_values-slots_at-list-requires t c).After-wide-g))
+walk_values-slots_at-list-requires t c = (c.args.self.now.ordered.whole_columns, group_place (here t (goal.at.walk_values-slots_at-list-requires t c).After-wide-g))
 
 pub walk_values-loop-v-init : goal.walk_values-loop-v-init
 walk_values-loop-v-init t c = tried_none (here t (goal.at.walk_values-loop-v-init t c).After-wide-g) c.args.unmet.now c.args.told.now c.args.met.now
@@ -99,8 +98,8 @@ walk_values-walk-below-requires t c =
     let loop = c.loop-v in
     let (course, u, r) = c.requires.underway in
     let inside = k.here.inside in
-    let counted : c.args.count + c.wide_byte.result + room_of c.args.grouped.now.sizes (unset c.args.order.now c.args.grouped.now.groups (c.args.at + 1)) ≤ 1024 = rw c.wide_byte.ensures.0 (room_behind k.here c.args.count loop.v k.within c.requires.at_lt_groups.1) in
-    (omega (arith, inside), (c.requires.ordered, ((omega (arith, inside), counted, c.requires.at_lt_groups.2), (course, tried_behind k loop.invariant c.set_group.ensures.needs_after c.set_group.ensures.rooms_after course u, loop.invariant.right course u r))))
+    let counted : c.args.count + c.wide_byte.result + room_of c.args.self.now.grouped.now.sizes (unset c.args.self.now.order.now c.args.self.now.grouped.now.groups (c.args.at + 1)) ≤ 1024 = rw c.wide_byte.ensures.0 (room_behind k.here c.args.count loop.v k.within c.requires.at_lt_groups.1) in
+    (omega (arith, inside), ((omega (arith, inside), counted), (course, tried_behind k loop.invariant c.set_group.ensures.needs_after c.set_group.ensures.rooms_after course u, loop.invariant.right course u r)))
 
 pub walk_values-unset_group-requires : goal.walk_values-unset_group-requires
 walk_values-unset_group-requires t c =
@@ -138,7 +137,7 @@ walk_values-loop-v-preserved t c =
 pub walk_values-returns-after-possible : goal.walk_values-returns-after-possible
 walk_values-returns-after-possible t c =
     let loop = c.loop-v in
-    let next : Tried c.args.grouped.now c.args.order.now c.args.allowed.now c.args.first c.args.at c.args.count (loop.v + 1) c.args.unmet.now c.if-possible.unmet c.args.told.now c.args.met.now c.if-possible.told c.if-possible.met c.if-possible.found =
+    let next : Tried c.args.self.now c.args.at c.args.count (loop.v + 1) c.args.unmet.now c.if-possible.unmet c.args.told.now c.args.met.now c.if-possible.told c.if-possible.met c.if-possible.found =
     elim c.if-possible.branch [
       | walk_values-then-possible+then-below w ↦
           let k = taken t (goal.at.walk_values-returns-after-possible t c).After-possible w.if-possible.true in
