@@ -1,27 +1,34 @@
--- The corners of the board are looked at one after another: a pattern in the first that has one is the answer, and the last one's answer is it where the
--- others have none. Assumes nothing.
-use mathlib.Core.Path.{◌≡◌, sym}
-use mathlib.Core.Bool.{Bool, true, false}
+-- The corners of the board are looked at one after another, each where those before it have no pattern: what that tells is whether one of the four has one.
+-- Assumes nothing.
+use mathlib.Core.Path.{◌≡◌, ap, ◌∙◌}
+use mathlib.Core.Logic.{◌⊎◌, inl, inr}
+use mathlib.Core.Bool.{Bool, true, false, ◌||◌, or_assoc}
 use Prim.Native.Nat.{ℕ, ◌-◌}
 use Rattle.patterns.specs.Shapes.{top_left, top_right, bottom_left, bottom_right, found_at, found_in_corner}
 
--- a, b, c and d are what the corners answer
-module _ (at : ℕ → ℕ → ℕ) (rows columns : ℕ) where
-  module _ {a : Bool} (first : a ≡ found_at at 0 0 top_left) where
-    pub first_corner : a ≡ true → true ≡ found_in_corner at rows columns
-    unfolding found_in_corner
-    first_corner h = rw (sym first, h)
+-- v is a where that is true, and else what b is
+abbrev pub Either : Bool → Bool → Bool → Type 0
+Either a b v = ((a ≡ true) × (v ≡ a)) ⊎ ((a ≡ false) × (v ≡ b))
 
-    module _ (None_first : a ≡ false) {b : Bool} (second : b ≡ found_at at 0 (columns - 2) top_right) where
-      pub second_corner : b ≡ true → true ≡ found_in_corner at rows columns
-      unfolding found_in_corner
-      second_corner h = rw (sym first, None_first, sym second, h)
+pub either : {a b v : Bool} → Either a b v → v ≡ (a || b)
+either (inl w) = rw (w.1, w.0)
+either (inr w) = rw (w.0, w.1)
 
-      module _ (none_second : b ≡ false) {c : Bool} (third : c ≡ found_at at (rows - 2) 0 bottom_left) where
-        pub third_corner : c ≡ true → true ≡ found_in_corner at rows columns
-        unfolding found_in_corner
-        third_corner h = rw (sym first, None_first, sym second, none_second, sym third, h)
+module _ (at : ℕ → ℕ → ℕ) (rows columns : ℕ) {a v w : Bool} (first : a ≡ found_at at 0 0 top_left)
+    (second : Either a (found_at at 0 (columns - 2) top_right) v) (third : Either v (found_at at (rows - 2) 0 bottom_left) w) where
+  three : w ≡ ((found_at at 0 0 top_left || found_at at 0 (columns - 2) top_right) || found_at at (rows - 2) 0 bottom_left)
+  three = either third ∙ ap (λ (t : Bool). t || found_at at (rows - 2) 0 bottom_left) (either second ∙ ap (λ (t : Bool). t || found_at at 0 (columns - 2) top_right) first)
 
-        pub last_corner : c ≡ false → {d : Bool} → d ≡ found_at at (rows - 2) (columns - 2) bottom_right → d ≡ found_in_corner at rows columns
-        unfolding found_in_corner
-        last_corner h e = rw (sym first, None_first, sym second, none_second, sym third, h) e
+  fourth : (w || found_at at (rows - 2) (columns - 2) bottom_right) ≡ found_in_corner at rows columns
+  unfolding found_in_corner
+  fourth =
+      rw three
+      (or_assoc (found_at at 0 0 top_left || found_at at 0 (columns - 2) top_right) (found_at at (rows - 2) 0 bottom_left) (found_at at (rows - 2) (columns - 2) bottom_right))
+
+  -- a corner before the last has one
+  pub before_last : w ≡ true → w ≡ found_in_corner at rows columns
+  before_last h = rw h (rw h at fourth)
+
+  -- the last answers
+  pub last_corner : w ≡ false → {d : Bool} → d ≡ found_at at (rows - 2) (columns - 2) bottom_right → d ≡ found_in_corner at rows columns
+  last_corner h e = e ∙ rw h at fourth

@@ -10,9 +10,9 @@ ghost use Rattle.patterns.specs.Shapes.{mine_mark};
 ghost use Rattle.patterns.specs.Answer.{unsolvable_structure};
 ghost use Rattle.patterns.specs.Walk.{Laid};
 
-use grid::window::{Size, cell_number};
+use grid::window::Size;
 use refusals::{Refusal, test_pattern};
-use table::pattern_found;
+use table::Framed;
 
 // Whether a board has a pattern; refused below 3 rows or columns too. Numbers play no part.
 pub fn unsolvable_structure(rows: usize, columns: usize, cells: &[u8]) -> Result<bool, Refusal>
@@ -21,7 +21,12 @@ pub fn unsolvable_structure(rows: usize, columns: usize, cells: &[u8]) -> Result
     test_pattern(Size::flat(rows, columns), cells)?;
     let mut board = [[255u8; 32]; 32];
     lay(&mut board, rows, columns, cells);
-    Ok(pattern_found(&board, rows, columns))
+    let framed = Framed {
+        cells: &board,
+        rows,
+        columns,
+    };
+    Ok(framed.pattern_found())
 }
 
 // Copies the board into 32 rows of 32 cells, which are all 255: a safe cell becomes 0.
@@ -32,7 +37,7 @@ fn lay(board: &mut [[u8; 32]; 32], rows: usize, columns: usize, cells: &[u8])
 {
     for row in 0..rows {
         for column in 0..columns {
-            board[row][column] = mark(cells[cell_number(rows, columns, row, column)]);
+            board[row][column] = mark(cells[row * columns + column]);
         }
     }
 }

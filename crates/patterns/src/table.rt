@@ -8,10 +8,13 @@ ghost use Rattle.patterns.specs.Walk.{laid_at, shapes_of, links_right};
 
 use grid::window::wide_byte;
 
-// The cells of the shapes, one after another: how many rows down and how many columns across from the anchor the cell is, what it asks for there (255 a mine, 0 a
-// safe cell), 1 at the last cell of a shape, and the entry with which the walk goes on where something else stands there: the first cell of the next shape that
-// does not ask for the same, or one past the last entry.
-const SHAPES: [[u8; 5]; 50] = [
+// A cell of a shape: how many rows down and how many columns across from the anchor it is, what it asks for there (255 a mine, 0 a safe cell), 1 at the last cell
+// of a shape, and the entry with which the walk goes on where something else stands there: the first cell of the next shape that does not ask for the same, or
+// one past the last entry.
+type ShapeCell = [u8; 5];
+
+// The cells of the shapes that are looked for anywhere, one after another.
+const SHAPES: [ShapeCell; 50] = [
     // 4 × 4: mines at the corners, and on one diagonal of the middle
     [0, 3, 255, 0, 28],
     [3, 0, 255, 0, 14],
@@ -72,7 +75,7 @@ const SHAPES: [[u8; 5]; 50] = [
 ];
 
 // The diagonals in the corners of the board, with the board's corner cell left free.
-const TOP_LEFT: [[u8; 5]; 12] = [
+const TOP_LEFT: [ShapeCell; 12] = [
     // mines on one diagonal
     [0, 3, 255, 0, 12],
     [3, 0, 255, 0, 12],
@@ -89,7 +92,7 @@ const TOP_LEFT: [[u8; 5]; 12] = [
     [2, 2, 0, 1, 12],
 ];
 
-const TOP_RIGHT: [[u8; 5]; 12] = [
+const TOP_RIGHT: [ShapeCell; 12] = [
     // mines on one diagonal
     [0, 3, 255, 0, 12],
     [3, 0, 255, 0, 12],
@@ -106,7 +109,7 @@ const TOP_RIGHT: [[u8; 5]; 12] = [
     [2, 2, 0, 1, 12],
 ];
 
-const BOTTOM_LEFT: [[u8; 5]; 12] = [
+const BOTTOM_LEFT: [ShapeCell; 12] = [
     // mines on one diagonal
     [0, 3, 255, 0, 12],
     [3, 0, 255, 0, 12],
@@ -123,7 +126,7 @@ const BOTTOM_LEFT: [[u8; 5]; 12] = [
     [2, 2, 0, 1, 12],
 ];
 
-const BOTTOM_RIGHT: [[u8; 5]; 12] = [
+const BOTTOM_RIGHT: [ShapeCell; 12] = [
     // mines on one diagonal
     [0, 3, 255, 0, 12],
     [3, 0, 255, 0, 12],
@@ -140,168 +143,102 @@ const BOTTOM_RIGHT: [[u8; 5]; 12] = [
     [2, 1, 255, 1, 12],
 ];
 
-// Is there a pattern, in a corner of the board or anywhere?
-pub fn pattern_found(board: &[[u8; 32]; 32], rows: usize, columns: usize) -> bool
-    requires sized { Sized rows columns }
-    requires le_rows { (3 ≤ rows) × (3 ≤ columns) }
-    ensures { result ≡ (found_in_corner (laid_at rows columns board.now) rows columns || found_anywhere (laid_at rows columns board.now) rows columns) }
-{
-    if found_in_corner(board, rows, columns) {
-        return true;
+// The board in its frame of mines. Its cells are in the first rows and columns of 32 rows of 32.
+#[derive(Clone, Copy)]
+pub struct Framed<'a> {
+    pub cells: &'a [[u8; 32]; 32],
+    pub rows: usize,
+    pub columns: usize,
+}
+
+impl<'a> Framed<'a> {
+    // Is there a pattern, in a corner of the board or anywhere?
+    pub fn pattern_found(&self) -> bool
+        requires sized { Sized self.now.rows self.now.columns }
+        requires le_rows { (3 ≤ self.now.rows) × (3 ≤ self.now.columns) }
+        ensures { result ≡ (found_in_corner (laid_at self.now.rows self.now.columns self.now.cells.now) self.now.rows self.now.columns
+            || found_anywhere (laid_at self.now.rows self.now.columns self.now.cells.now) self.now.rows self.now.columns) }
+    {
+        self.found_in_corner() || self.found_anywhere()
     }
-    let cells = SHAPES;
-    found_anywhere(board, &cells, rows, columns)
-}
 
-// Does a shape fit in its corner of the board?
-fn found_in_corner(board: &[[u8; 32]; 32], rows: usize, columns: usize) -> bool
-    requires sized { Sized rows columns }
-    requires le_rows { (3 ≤ rows) × (3 ≤ columns) }
-    ensures { result ≡ found_in_corner (laid_at rows columns board.now) rows columns }
-{
-    if found_top_left(board, rows, columns) {
-        return true;
+    // Does a shape fit in its corner of the board?
+    fn found_in_corner(&self) -> bool
+        requires sized { Sized self.now.rows self.now.columns }
+        requires le_rows { (3 ≤ self.now.rows) × (3 ≤ self.now.columns) }
+        ensures { result ≡ found_in_corner (laid_at self.now.rows self.now.columns self.now.cells.now) self.now.rows self.now.columns }
+    {
+        let bottom = self.rows - 2;
+        let right = self.columns - 2;
+        self.found_at(&TOP_LEFT, 0, 0)
+            || self.found_at(&TOP_RIGHT, 0, right)
+            || self.found_at(&BOTTOM_LEFT, bottom, 0)
+            || self.found_at(&BOTTOM_RIGHT, bottom, right)
     }
-    if found_top_right(board, rows, columns) {
-        return true;
-    }
-    if found_bottom_left(board, rows, columns) {
-        return true;
-    }
-    found_bottom_right(board, rows, columns)
-}
 
-// Does a shape of the top left corner fit there?
-fn found_top_left(board: &[[u8; 32]; 32], rows: usize, columns: usize) -> bool
-    requires { Sized rows columns }
-    ensures { result ≡ found_at (laid_at rows columns board.now) 0 0 top_left }
-{
-    let cells = TOP_LEFT;
-    found_at(board, &cells, rows, columns, 0, 0)
-}
-
-// Does a shape of the top right corner fit there?
-fn found_top_right(board: &[[u8; 32]; 32], rows: usize, columns: usize) -> bool
-    requires sized { Sized rows columns }
-    requires le_columns { 3 ≤ columns }
-    ensures { result ≡ found_at (laid_at rows columns board.now) 0 (columns - 2) top_right }
-{
-    let cells = TOP_RIGHT;
-    found_at(board, &cells, rows, columns, 0, columns - 2)
-}
-
-// Does a shape of the bottom left corner fit there?
-fn found_bottom_left(board: &[[u8; 32]; 32], rows: usize, columns: usize) -> bool
-    requires sized { Sized rows columns }
-    requires le_rows { 3 ≤ rows }
-    ensures { result ≡ found_at (laid_at rows columns board.now) (rows - 2) 0 bottom_left }
-{
-    let cells = BOTTOM_LEFT;
-    found_at(board, &cells, rows, columns, rows - 2, 0)
-}
-
-// Does a shape of the bottom right corner fit there?
-fn found_bottom_right(board: &[[u8; 32]; 32], rows: usize, columns: usize) -> bool
-    requires sized { Sized rows columns }
-    requires le_rows { (3 ≤ rows) × (3 ≤ columns) }
-    ensures { result ≡ found_at (laid_at rows columns board.now) (rows - 2) (columns - 2) bottom_right }
-{
-    let cells = BOTTOM_RIGHT;
-    found_at(board, &cells, rows, columns, rows - 2, columns - 2)
-}
-
-// Does a shape of the table fit at an anchor anywhere?
-fn found_anywhere(board: &[[u8; 32]; 32], cells: &[[u8; 5]], rows: usize, columns: usize) -> bool
-    requires cells_value { links_right cells.now ≡ true }
-    requires cells_value_2 { shapes_of cells.now ≡ shapes }
-    requires sized { Sized rows columns }
-    ensures { result ≡ found_anywhere (laid_at rows columns board.now) rows columns }
-{
-    for row in 0..rows {
-        if found_in_row(board, cells, rows, columns, row) {
-            return true;
-        }
-    }
-    false
-}
-
-// Does a shape of the table fit at an anchor of the row?
-fn found_in_row(
-    board: &[[u8; 32]; 32],
-    cells: &[[u8; 5]],
-    rows: usize,
-    columns: usize,
-    row: usize,
-) -> bool
-    requires cells_value { links_right cells.now ≡ true }
-    requires cells_value_2 { shapes_of cells.now ≡ shapes }
-    requires sized { Sized rows columns }
-    requires row_lt_rows { row < rows }
-    ensures { result ≡ any (λ column. found_at (laid_at rows columns board.now) row column shapes) (range 0 columns) }
-{
-    for column in 0..columns {
-        if found_at(board, cells, rows, columns, row, column) {
-            return true;
-        }
-    }
-    false
-}
-
-// The matcher: does one of the shapes of the table fit at the anchor?
-fn found_at(
-    board: &[[u8; 32]; 32],
-    cells: &[[u8; 5]],
-    rows: usize,
-    columns: usize,
-    row: usize,
-    column: usize,
-) -> bool
-    requires cells_value { links_right cells.now ≡ true }
-    requires sized { Sized rows columns }
-    requires row_le_rows { (row ≤ rows) × (column ≤ columns) }
-    ensures { result ≡ found_at (laid_at rows columns board.now) row column (shapes_of cells.now) }
-{
-    if stands(board, rows, columns, row, column) != 255 {
-        return false;
-    }
-    let mut k = 0;
-    while k < cells.len() {
-        let down = row + wide_byte(cells[k][0]);
-        let across = column + wide_byte(cells[k][1]);
-        if stands(board, rows, columns, down, across) == cells[k][2] {
-            if cells[k][3] == 1 {
+    // Does a shape fit at an anchor anywhere?
+    fn found_anywhere(&self) -> bool
+        requires { Sized self.now.rows self.now.columns }
+        ensures { result ≡ found_anywhere (laid_at self.now.rows self.now.columns self.now.cells.now) self.now.rows self.now.columns }
+    {
+        for row in 0..self.rows {
+            if self.found_in_row(row) {
                 return true;
             }
-            k += 1;
-        } else {
-            k = wide_byte(cells[k][4]);
         }
+        false
     }
-    false
-}
 
-// What stands at a place of the framed board: 255 for a mine and on the frame, 0 for a safe cell, 1 beyond the frame.
-fn stands(board: &[[u8; 32]; 32], rows: usize, columns: usize, row: usize, column: usize) -> u8
-    requires { Sized rows columns }
-    ensures { result ≡ laid_at rows columns board.now row column }
-{
-    if rows + 1 < row {
-        return 1;
+    // Does a shape fit at an anchor of the row?
+    fn found_in_row(&self, row: usize) -> bool
+        requires sized { Sized self.now.rows self.now.columns }
+        requires row_lt_rows { row < self.now.rows }
+        ensures { result ≡ any (λ column. found_at (laid_at self.now.rows self.now.columns self.now.cells.now) row column shapes) (range 0 self.now.columns) }
+    {
+        for column in 0..self.columns {
+            if self.found_at(&SHAPES, row, column) {
+                return true;
+            }
+        }
+        false
     }
-    if columns + 1 < column {
-        return 1;
+
+    // The matcher: does one of the shapes of the table fit at the anchor?
+    fn found_at(&self, table: &[ShapeCell], row: usize, column: usize) -> bool
+        requires links { links_right table.now ≡ true }
+        requires sized { Sized self.now.rows self.now.columns }
+        requires row_le_rows { (row ≤ self.now.rows) × (column ≤ self.now.columns) }
+        ensures { result ≡ found_at (laid_at self.now.rows self.now.columns self.now.cells.now) row column (shapes_of table.now) }
+    {
+        if self.stands(row, column) != 255 {
+            return false;
+        }
+        let mut k = 0;
+        while k < table.len() {
+            let [down, across, asks, last, next] = table[k];
+            let there = self.stands(row + wide_byte(down), column + wide_byte(across));
+            if there != asks {
+                k = wide_byte(next);
+            } else if last == 1 {
+                return true;
+            } else {
+                k += 1;
+            }
+        }
+        false
     }
-    if row == 0 {
-        return 255;
+
+    // What stands at a place of the framed board: 255 for a mine and on the frame, 0 for a safe cell, 1 beyond the frame.
+    fn stands(&self, row: usize, column: usize) -> u8
+        requires { Sized self.now.rows self.now.columns }
+        ensures { result ≡ laid_at self.now.rows self.now.columns self.now.cells.now row column }
+    {
+        if self.rows + 1 < row || self.columns + 1 < column {
+            return 1;
+        }
+        if row == 0 || 32 < row || column == 0 || 32 < column {
+            return 255;
+        }
+        self.cells[row - 1][column - 1]
     }
-    if 32 < row {
-        return 255;
-    }
-    if column == 0 {
-        return 255;
-    }
-    if 32 < column {
-        return 255;
-    }
-    board[row - 1][column - 1]
 }

@@ -1,10 +1,5 @@
-use Prim.Native.Nat.{◌-◌, ◌≤◌}
-use mathlib.Core.Path.{◌∙◌, ap}
-use native.Mathlib.Omega.{arith}
-use borrow.Author.Rules.{rules}
-use Rattle.patterns.specs.Shapes.{mine_mark}
-use Rattle.grid.specs.Cells.{cell_of}
-use Rattle.patterns.proofs.FilledRows.{Filled, filled_start, filled_put, filled_row, filled_laid}
+use Prim.Native.Nat.{◌≤◌}
+use Rattle.patterns.proofs.FilledRows.{Filled}
 use Rattle.patterns.proofs.lay.Given as goal
 
 abbrev pub invariant-loop-column : goal.invariant-loop-column

@@ -11,13 +11,16 @@ use Rattle.patterns.proofs.unsolvable_structure.Goals as goal
 use Rattle.patterns.proofs.unsolvable_structure.Goals.{In_ok-test_pattern}
 
 -- this is known of a board that the tests accept
+accepted : (c : In_ok-test_pattern) → (let a = c.args in pattern_tested a.rows a.columns a.cells.now ≡ Accepted)
+accepted c = rw c.flat.ensures at (sym c.in_ok-test_pattern.ensures)
+
 facts : (c : In_ok-test_pattern) → (let a = c.args in AcceptedPattern a.rows a.columns a.cells.now)
-facts c = accepted_pattern _ _ _ (sym c.in_ok-test_pattern.ensures)
+facts c = accepted_pattern _ _ _ (accepted c)
 
 pub returns-in_err-test_pattern : goal.returns-in_err-test_pattern
 returns-in_err-test_pattern c =
     let p = err_from_is_err_and c.from_residual.result c.from_residual.ensures.1 in
-    rw (p.1, p.2) (refused_answer_lem _ _ _ (sym c.in_err-test_pattern.ensures))
+    rw (p.1, p.2) (refused_answer_lem _ _ _ (rw c.flat.ensures at (sym c.in_err-test_pattern.ensures)))
 
 pub lay-requires : goal.lay-requires
 lay-requires c = record { board_value = refl; board = (facts (goal.at.lay-requires c).In_ok-test_pattern).board }
@@ -28,4 +31,4 @@ pattern_found-requires c = let known = facts (goal.at.pattern_found-requires c).
 pub returns : goal.returns
 returns c =
     let known = facts (goal.at.returns c).In_ok-test_pattern in
-    searched_answer _ _ _ (sym c.in_ok-test_pattern.ensures) (found_framed _ _ known.board.sized _ _ c.lay.ensures c.pattern_found.ensures refl)
+    searched_answer _ _ _ (accepted (goal.at.returns c).In_ok-test_pattern) (found_framed _ _ known.board.sized _ _ c.lay.ensures c.pattern_found.ensures refl)
