@@ -6,23 +6,21 @@ use mathlib.Core.Logic.{◌⊎◌, inl, inr, ◌≢◌}
 use mathlib.Core.Bool.{true, false, cond}
 use mathlib.Core.List.{List, [], ◌∷◌, ◌++◌, map, append_assoc, append-nil}
 use Prim.Native.Nat.{ℕ, zero, suc, ◌+◌, ◌≤◌, ◌<◌}
-use native.Mathlib.Numerals.{add-one}
 use native.Mathlib.Omega.{arith}
 use lib.Dec.{eqb, ltb}
-use lib.ListN.{length, get_or, set, take, replicate, length-set, length-replicate}
-use lib.Seq.{take-suc-set, get_or-set_same, get_or-set_other}
-use borrow.Author.Tests.{eqb-true, eqb-false, ne_eqb, lt-ltb}
+use lib.ListN.{length, get_or, set}
+use lib.Seq.{get_or-set_same, get_or-set_other}
+use borrow.Author.Tests.{eqb-true, eqb-false, lt-ltb}
 use Rattle.lists.specs.Lists.{range, all, joined, has}
 use Rattle.lists.proofs.Tests.{Decided, decided, clash}
 use Rattle.lists.proofs.All.{all_has, has_all}
 use Rattle.blocks.specs.BlockSets.{slot_cells}
-use Rattle.blocks.specs.Places.{marked}
 use Rattle.search.specs.Trees.{lowered, possible, tree}
-use Rattle.search.specs.Searching.{State}
-use Rattle.search.proofs.Lowering.{lowered_less, state_lowered}
-use Rattle.blocks.proofs.MarkLaws.{marks_has}
-use Rattle.orders.proofs.BegunOrders.{begun_none, begun_room, begun_push, from_start, from_few}
-use Rattle.settling.specs.Settling.{Leaves, Settling, Settles}
+use Rattle.search.proofs.Lowering.{lowered_less}
+use Rattle.orders.specs.declared.Order.{Order}
+use Rattle.orders.specs.WholeOrders.{Beginning}
+use Rattle.orders.proofs.BegunOrders.{from_start, from_few}
+use Rattle.settling.specs.Settling.{Leaves, Settles}
 
 -- ---- one branch
 
@@ -113,69 +111,17 @@ module _ {sizes columns start_needs start_rooms settled values needs rooms : Lis
       column : ℕ → List ℕ
       column = slot_cells columns
 
--- ---- the arrays
+-- ---- groups that come to those settled before
 
--- one more group in the order
-module _ {needs rooms values seen order : List ℕ} {n : ℕ} (held : Settling needs rooms values seen order n) (g : ℕ) (place : g < 1024) (new : has (take n order) g ≡ false) where
-  unmarked : marked seen g ≡ false
-  unmarked = marks_has held.begun.shown g ∙ new
+-- with a group more they are groups
+pub inside_more : (groups g : ℕ) → g < groups → (before after : List ℕ) → all (λ x. ltb x groups) before ≡ true
+    → ((x : ℕ) → has after x ≡ true → (has before x ≡ true) ⊎ (x ≡ g)) → all (λ x. ltb x groups) after ≡ true
+inside_more groups g h before after inside added = has_all (λ x. ltb x groups) after (λ x m. go x (added x m))
+  where
+    go : (x : ℕ) → (has before x ≡ true) ⊎ (x ≡ g) → ltb x groups ≡ true
+    go x (inl m) = all_has (λ y. ltb y groups) before inside x m
+    go x (inr e) = lt-ltb x groups (omega arith)
 
-  pub settled_room : n < 1024
-  settled_room = begun_room seen order n held.begun g place unmarked
-
-  pub order_more : take (n + 1) (set order n g) ≡ take n order ++ (g ∷ [])
-  order_more = rw add-one (take-suc-set order n g (omega (arith, held.begun.whole, settled_room)))
-
-  pub settling_more : (v size : ℕ) (es : List ℕ) → Settling (lowered v es needs) (lowered size es rooms) (set values g v) (set seen g 1) (set order n g) (n + 1)
-  settling_more v size es =
-      record {
-        state = state_lowered v size es held.state;
-        whole = length-set values g v ∙ held.whole;
-        begun = begun_push seen order n held.begun g place unmarked;
-      }
-
--- ---- while the groups are swept
-
--- only groups are settled, and those settled at the start with all that were since are settled too
-pub record Swept (groups : ℕ) (sizes columns : List ℕ) (needs₀ rooms₀ values₀ settled₀ needs rooms values seen order : List ℕ) (n : ℕ) : Type 0 where
-  pub settling : Settling needs rooms values seen order n
-  pub inside : all (λ g. ltb g groups) (take n order) ≡ true
-  pub settles : (start_needs start_rooms : List ℕ) → Settles sizes columns start_needs start_rooms settled₀ values₀ needs₀ rooms₀
-      → Settles sizes columns start_needs start_rooms (take n order) values needs rooms
-
-pub swept_start : {groups : ℕ} {needs rooms values seen order : List ℕ} {n : ℕ} (sizes columns : List ℕ) → Settling needs rooms values seen order n
-    → all (λ g. ltb g groups) (take n order) ≡ true → Swept groups sizes columns needs rooms values (take n order) needs rooms values seen order n
-swept_start sizes columns s inside = record { settling = s; inside = inside; settles = λ start_needs start_rooms h. h }
-
-module _ {groups : ℕ} {sizes columns needs₀ rooms₀ values₀ settled₀ needs rooms values seen order : List ℕ} {n : ℕ}
-    (held : Swept groups sizes columns needs₀ rooms₀ values₀ settled₀ needs rooms values seen order n) where
-  -- a group that is not marked is not settled
-  pub swept_unmarked : (g : ℕ) → (get_or seen g 0 ≡ 1 → ⊥) → has (take n order) g ≡ false
-  swept_unmarked g h = sym (marks_has held.settling.begun.shown g) ∙ ne_eqb (get_or seen g 0) 1 h
-
-  -- they are swept once more
-  pub swept_again : {needs' rooms' values' seen' order' : List ℕ} {n' : ℕ} → Settling needs' rooms' values' seen' order' n' → all (λ g. ltb g groups) (take n' order') ≡ true
-      → ((start_needs start_rooms : List ℕ) → Settles sizes columns start_needs start_rooms (take n order) values needs rooms
-      → Settles sizes columns start_needs start_rooms (take n' order') values' needs' rooms')
-      → Swept groups sizes columns needs₀ rooms₀ values₀ settled₀ needs' rooms' values' seen' order' n'
-  swept_again s inside next = record { settling = s; inside = inside; settles = λ start_needs start_rooms k. next start_needs start_rooms (held.settles start_needs start_rooms k) }
-
-  -- the next group is settled, or is not
-  pub swept_more : {needs' rooms' values' seen' order' : List ℕ} {n' : ℕ} (g : ℕ) → g < groups → Settling needs' rooms' values' seen' order' n'
-      → ((x : ℕ) → has (take n' order') x ≡ true → (has (take n order) x ≡ true) ⊎ (x ≡ g))
-      → ((start_needs start_rooms : List ℕ) → Settles sizes columns start_needs start_rooms (take n order) values needs rooms
-      → Settles sizes columns start_needs start_rooms (take n' order') values' needs' rooms')
-      → Swept groups sizes columns needs₀ rooms₀ values₀ settled₀ needs' rooms' values' seen' order' n'
-  swept_more {order' = order'} {n' = n'} g h s added next = swept_again s (has_all (λ x. ltb x groups) (take n' order') (λ x m. go x (added x m))) next
-    where
-      go : (x : ℕ) → (has (take n order) x ≡ true) ⊎ (x ≡ g) → ltb x groups ≡ true
-      go x (inl m) = all_has (λ y. ltb y groups) (take n order) held.inside x m
-      go x (inr e) = lt-ltb x groups (omega arith)
-
-  -- there are at most as many as groups
-  pub swept_few : n ≤ groups
-  swept_few = from_few (from_start groups held.settling.begun held.inside)
-
--- before the first sweep none is settled
-pub settling_start : {needs rooms : List ℕ} → State 1024 needs rooms → Settling needs rooms (replicate 1024 0) (replicate 1024 0) (replicate 1024 0) 0
-settling_start s = record { state = s; whole = length-replicate {A = ℕ} 1024 0; begun = begun_none }
+-- there are at most as many as groups
+pub settled_few : (groups : ℕ) (o : Order) → Beginning groups o → o.count ≤ groups
+settled_few groups o b = from_few (from_start groups o b.inside)

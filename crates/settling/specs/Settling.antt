@@ -1,11 +1,10 @@
 -- Cited by no public contract. What the functions that settle groups are told and tell: which values the equations of a group leave it, and that with some
 -- groups settled the search over the others gives all that the search over all groups gives. Assumes nothing.
-use Rattle.std.specs.Prelude.{◌≡◌, true, List, ◌++◌, map, ℕ, ◌≤◌, ◌<◌, ltb, length, get_or}
+use Rattle.std.specs.Prelude.{◌≡◌, true, List, ◌++◌, map, ℕ, ◌≤◌, ◌<◌, ltb, get_or}
 use Rattle.lists.specs.Lists.{all, nodup}
 use Rattle.blocks.specs.BlockSets.{slot_cells}
+use Rattle.groups.specs.declared.Grouped.{Grouped}
 use Rattle.search.specs.Trees.{possible, tree}
-use Rattle.search.specs.Searching.{State}
-use Rattle.orders.specs.Ordering.{Begun}
 
 -- the equations of a list leave a group of so many cells the values from the least to the most, and no others
 pub record Leaves (size : ℕ) (es needs rooms : List ℕ) (least most : ℕ) : Type 0 where
@@ -20,16 +19,9 @@ pub record Column (sizes columns : List ℕ) (g : ℕ) : Type 0 where
   pub once : nodup (slot_cells columns g) ≡ true
 
 -- so many groups, each of that kind
-pub record Columns (groups : ℕ) (sizes columns : List ℕ) : Type 0 where
-  pub few : groups ≤ 1024
-  pub whole : length columns ≡ 8192
-  pub at : (g : ℕ) → g < groups → Column sizes columns g
-
--- the arrays while groups are settled: the first n groups of an order are, and each of them is marked
-pub record Settling (needs rooms values seen order : List ℕ) (n : ℕ) : Type 0 where
-  pub state : State 1024 needs rooms
-  pub whole : length values ≡ 1024
-  pub begun : Begun seen order n
+pub record Columns (grouped : Grouped) : Type 0 where
+  pub few : grouped.groups ≤ 1024
+  pub at : (g : ℕ) → g < grouped.groups → Column grouped.sizes grouped.columns g
 
 -- some groups are settled, each at its value: whatever groups follow them, the rows of the tree from the start are the rows of the others from the state as
 -- it is, each behind the settled values; and no equation needs more than at the start

@@ -4,13 +4,13 @@
 
 ghost use Rattle.std.specs.Prelude.{◌≡◌, ◌⊎◌, true, false, List, ℕ, ◌≤◌, ◌<◌, ltb, length, get_or, take};
 ghost use Rattle.lists.specs.Lists.{all, has};
-ghost use Rattle.blocks.specs.Places.{OnBoard};
-ghost use Rattle.orders.specs.Ordering.{Beginning};
+ghost use Rattle.orders.specs.WholeOrders.{in_order, Beginning};
 ghost use Rattle.search.specs.Searching.{State};
-ghost use Rattle.settling.specs.Settling.{Leaves, Column, Columns, Settling, Settles};
+ghost use Rattle.settling.specs.Settling.{Leaves, Column, Columns};
 
 use blocks::slots_at;
-use grid::window::{UpToEight, wide};
+use grid::window::wide;
+use groups::Grouped;
 use orders::Order;
 use search::lower;
 
@@ -21,6 +21,23 @@ pub struct Span {
     pub most: u8,
 }
 
+// What the equations at these places leave a group of so many cells: no more than each needs, and so many that the cells of its other groups do for the rest.
+fn span_left(places: &[u16], size: u8, needs: &[u8; 1024], rooms: &[u8; 1024]) -> Span
+    requires below { all (λ e. ltb e 1024) places.now ≡ true }
+    requires size_bound { (size ≤ 8) × ((e : ℕ) → get_or needs.now e 0 ≤ 8) × ((e : ℕ) → get_or rooms.now e 0 ≤ 8) }
+    ensures { Leaves size places.now needs.now rooms.now result.least result.most }
+{
+    let mut least = 0;
+    let mut most = size;
+    for &place in places {
+        let need = needs[wide(place)];
+        let room = rooms[wide(place)];
+        most = most.min(need);
+        least = least.max((need + size).saturating_sub(room));
+    }
+    Span { least, most }
+}
+
 // The groups that are settled, with their values, and what the equations still need and how many cells their other groups have.
 #[derive(Drop)]
 pub struct Settled {
@@ -28,150 +45,64 @@ pub struct Settled {
     pub values: [u8; 1024],
     pub needs: [u8; 1024],
     pub rooms: [u8; 1024],
+    pub ghost state: { State 1024 needs rooms },
 }
 
-// What the equations of a list leave a group of so many cells: no more than each needs, and so many that the cells of its other groups do for the rest.
-fn span_left(list: UpToEight, size: u8, needs: &[u8; 1024], rooms: &[u8; 1024]) -> Span
-    requires on_board { OnBoard list }
-    requires size_bound { (size ≤ 8) × ((e : ℕ) → get_or needs.now e 0 ≤ 8) × ((e : ℕ) → get_or rooms.now e 0 ≤ 8) }
-    ensures { Leaves size (take list.len list.cells) needs.now rooms.now result.least result.most }
-{
-    let places = list.cells;
-    let len = list.len;
-    let mut least = 0;
-    let mut most = size;
-    for k in 0..len {
-        let e = wide(places[k]);
-        let need = needs[e];
-        let room = rooms[e];
-        if need < most {
-            most = need;
+impl Settled {
+    ghost use Rattle.settling.specs.SettledGroups.{SettledFrom};
+
+    // Settles a group that is not settled yet, if it is left one value.
+    fn settle_group(&mut self, group: usize, grouped: &Grouped)
+        requires group_bound { (group < 1024) × Column grouped.now.sizes grouped.now.columns group }
+        requires new { has (in_order self.old.begun) group ≡ false }
+        ensures by_index { (g : ℕ) → has (in_order self.new.begun) g ≡ true → (has (in_order self.old.begun) g ≡ true) ⊎ (g ≡ group) }
+        ensures by_index_2 { (needs rooms : List ℕ) → SettledFrom grouped.now needs rooms self.old → SettledFrom grouped.now needs rooms self.new }
+    {
+        let size = grouped.sizes[group];
+        let column = slots_at(&grouped.columns, group);
+        let span = span_left(column.as_slice(), size, &self.needs, &self.rooms);
+        if span.least != span.most {
+            return;
         }
-        if least + room < need + size {
-            least = need + size - room;
-        }
+        self.values[group] = span.most;
+        lower(column, span.most, &mut self.needs);
+        lower(column, size, &mut self.rooms);
+        self.begun.add_group(group as u16);
     }
-    Span { least, most }
-}
 
-// Settles a group, if it is left one value, behind the n groups settled before it.
-fn settle_group(
-    group: usize,
-    sizes: &[u8; 1024],
-    columns: &[u16; 8192],
-    needs: &mut [u8; 1024],
-    rooms: &mut [u8; 1024],
-    values: &mut [u8; 1024],
-    seen: &mut [u8; 1024],
-    order: &mut [u16; 1024],
-    n: usize,
-) -> usize
-    requires group_bound { (group < 1024) × (length columns.now ≡ 8192) × Column sizes.now columns.now group }
-    requires settling { Settling needs.old rooms.old values.old seen.old order.old n }
-    requires group_value { has (take n order.old) group ≡ false }
-    ensures settling_2 { Settling needs.new rooms.new values.new seen.new order.new result }
-    ensures by_index { (g : ℕ) → has (take result order.new) g ≡ true → (has (take n order.old) g ≡ true) ⊎ (g ≡ group) }
-    ensures by_index_2 { (start_needs start_rooms : List ℕ)
-        → Settles sizes.now columns.now start_needs start_rooms (take n order.old) values.old needs.old rooms.old
-        → Settles sizes.now columns.now start_needs start_rooms (take result order.new) values.new needs.new rooms.new }
-{
-    let size = sizes[group];
-    let list = slots_at(columns, group);
-    let span = span_left(list, size, needs, rooms);
-    if span.least != span.most {
-        return n;
-    }
-    values[group] = span.most;
-    lower(list, span.most, needs);
-    lower(list, size, rooms);
-    seen[group] = 1;
-    order[n] = group as u16;
-    n + 1
-}
-
-// Settles each group that is left one value, from the first to the last.
-fn sweep(
-    groups: usize,
-    sizes: &[u8; 1024],
-    columns: &[u16; 8192],
-    needs: &mut [u8; 1024],
-    rooms: &mut [u8; 1024],
-    values: &mut [u8; 1024],
-    seen: &mut [u8; 1024],
-    order: &mut [u16; 1024],
-    before: usize,
-) -> usize
-    requires columns { Columns groups sizes.now columns.now }
-    requires settling { Settling needs.old rooms.old values.old seen.old order.old before }
-    requires order_value { all (λ g. ltb g groups) (take before order.old) ≡ true }
-    ensures settling_2 { Settling needs.new rooms.new values.new seen.new order.new result }
-    ensures order_after { all (λ g. ltb g groups) (take result order.new) ≡ true }
-    ensures by_index { (start_needs start_rooms : List ℕ)
-        → Settles sizes.now columns.now start_needs start_rooms (take before order.old) values.old needs.old rooms.old
-        → Settles sizes.now columns.now start_needs start_rooms (take result order.new) values.new needs.new rooms.new }
-{
-    let mut n = before;
-    for g in 0..groups {
-        if seen[g] != 1 {
-            n = settle_group(g, sizes, columns, needs, rooms, values, seen, order, n);
+    // Settles each group that is left one value, from the first to the last.
+    fn sweep(&mut self, grouped: &Grouped)
+        requires columns { Columns grouped.now }
+        requires beginning { Beginning grouped.now.groups self.old.begun }
+        ensures beginning_2 { Beginning grouped.now.groups self.new.begun }
+        ensures by_index { (needs rooms : List ℕ) → SettledFrom grouped.now needs rooms self.old → SettledFrom grouped.now needs rooms self.new }
+    {
+        for g in 0..grouped.groups {
+            if !self.begun.contains(g) {
+                self.settle_group(g, grouped);
+            }
         }
     }
-    n
-}
 
-// Settles groups until a sweep settles none. `start_needs` and `start_rooms` are what the equations need and have room for at first.
-pub fn settle(
-    groups: usize,
-    sizes: &[u8; 1024],
-    columns: &[u16; 8192],
-    start_needs: [u8; 1024],
-    start_rooms: [u8; 1024],
-) -> Settled
-    requires columns { Columns groups sizes.now columns.now }
-    requires state { State 1024 start_needs start_rooms }
-    ensures beginning { Beginning groups result.begun × State 1024 result.needs result.rooms × (length result.values ≡ 1024) }
-    ensures settles { Settles sizes.now columns.now start_needs start_rooms (take result.begun.count result.begun.groups) result.values result.needs result.rooms }
-{
-    let mut needs = start_needs;
-    let mut rooms = start_rooms;
-    let mut values = [0u8; 1024];
-    let mut seen = [0u8; 1024];
-    let mut order = [0u16; 1024];
-    let mut settled = 0;
-    let mut n = sweep(
-        groups,
-        sizes,
-        columns,
-        &mut needs,
-        &mut rooms,
-        &mut values,
-        &mut seen,
-        &mut order,
-        0,
-    );
-    while settled < n {
-        settled = n;
-        n = sweep(
-            groups,
-            sizes,
-            columns,
-            &mut needs,
-            &mut rooms,
-            &mut values,
-            &mut seen,
-            &mut order,
-            n,
-        );
-    }
-    let begun = Order {
-        groups: order,
-        seen,
-        count: n,
-    };
-    Settled {
-        begun,
-        values,
-        needs,
-        rooms,
+    // Settles groups until a sweep settles none.
+    pub fn settle(grouped: &Grouped) -> Settled
+        requires columns { Columns grouped.now }
+        requires state { State 1024 grouped.now.needs grouped.now.rooms }
+        ensures beginning { Beginning grouped.now.groups result.begun }
+        ensures settles { SettledFrom grouped.now grouped.now.needs grouped.now.rooms result }
+    {
+        let mut settled = Settled {
+            begun: Order::empty(),
+            values: [0; 1024],
+            needs: grouped.needs,
+            rooms: grouped.rooms,
+        };
+        loop {
+            let before = settled.begun.count;
+            settled.sweep(grouped);
+            if settled.begun.count <= before {
+                return settled;
+            }
+        }
     }
 }
