@@ -7,6 +7,10 @@ use Rattle.totals.specs.Totals.{sums_to}
 
 -- ---- sets in an array
 
+-- a set in an array of its own holds a number
+abbrev pub holds : List ℕ → ℕ → Bool
+holds set t = eqb (get_or set t 0) 1
+
 -- the set that stands between two places of an array
 abbrev pub set_at : List ℕ → ℕ → ℕ → ℕ → Bool
 set_at counts first end t = ltb (first + t) end && eqb (get_or counts (first + t) 0) 1
@@ -31,10 +35,10 @@ pub record SumsAre (rest : ℕ) (sets : List (ℕ → Bool)) (sums : List ℕ) :
   pub whole : length sums ≡ 1025
   pub at : (n : ℕ) → n ≤ rest → eqb (get_or sums n 0) 1 ≡ sums_to sets n
 
--- one array has the sums of what another has the sums of and of the set between two places, whatever sets those are
-pub record Joined (rest : ℕ) (counts : List ℕ) (first end : ℕ) (before after : List ℕ) : Type 0 where
+-- one array has the sums of what another has the sums of and of one set more, whatever sets those are
+pub record Joined (rest : ℕ) (set before after : List ℕ) : Type 0 where
   pub whole : length after ≡ 1025
-  pub sums : (sets : List (ℕ → Bool)) → SumsAre rest sets before → SumsAre rest (set_at counts first end ∷ sets) after
+  pub sums : (sets : List (ℕ → Bool)) → SumsAre rest sets before → SumsAre rest (holds set ∷ sets) after
 
 -- the numbers below `end` that are t more than one of a set
 abbrev pub raised : List ℕ → ℕ → ℕ → ℕ → Bool

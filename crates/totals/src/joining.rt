@@ -3,14 +3,14 @@
 ghost use Rattle.std.specs.Prelude.{◌≡◌, true, ◌&&◌, [], ◌∷◌, ℕ, ◌+◌, ◌-◌, ◌≤◌, leb, eqb, length, get_or};
 ghost use Rattle.counting.specs.Counting.{Marked};
 ghost use Rattle.totals.specs.Totals.{up_to};
-ghost use Rattle.totals.specs.Joining.{set_at, counts_but, EndsInOrder, SumsAre, Joined, raised};
+ghost use Rattle.totals.specs.Joining.{holds, counts_but, EndsInOrder, SumsAre, Joined, raised};
 
 use blocks::begin_at;
 use grid::window::wide;
 
 // One number more: what a set has, raised by t, goes to another, up to `rest`.
 fn add_count(before: &[u8; 1025], t: usize, rest: usize, after: &mut [u8; 1025])
-    requires { (t ≤ rest) × (rest ≤ 1024) × (length after.old ≡ 1025) }
+    requires { (t ≤ rest) × (rest ≤ 1024) }
     ensures { Marked (raised before.now t (rest + 1)) after.old after.new }
 {
     for n in t..rest + 1 {
@@ -20,23 +20,15 @@ fn add_count(before: &[u8; 1025], t: usize, rest: usize, after: &mut [u8; 1025])
     }
 }
 
-// The sums of a set and one between two places of `counts`, up to `rest`.
-fn join(
-    counts: &[u8; 2048],
-    first: usize,
-    end: usize,
-    rest: usize,
-    before: [u8; 1025],
-) -> [u8; 1025]
-    requires { (first ≤ end) × (end ≤ 2048) × (rest ≤ 1024) }
-    ensures { Joined rest counts.now first end before result }
+// The sums of a set and another, up to `rest`.
+fn join(set: &[u8], rest: usize, before: [u8; 1025]) -> [u8; 1025]
+    requires { rest ≤ 1024 }
+    ensures { Joined rest set.now before result }
 {
     let mut after = [0u8; 1025];
-    for i in first..end {
-        if counts[i] == 1 {
-            if i - first <= rest {
-                add_count(&before, i - first, rest, &mut after);
-            }
+    for (t, &has) in set.iter().enumerate() {
+        if has == 1 && t <= rest {
+            add_count(&before, t, rest, &mut after);
         }
     }
     after
@@ -48,9 +40,7 @@ fn counts_up_to(k: usize) -> [u8; 1025]
     ensures { SumsAre 1024 (up_to k ∷ []) result }
 {
     let mut counts = [0u8; 1025];
-    for n in 0..k + 1 {
-        counts[n] = 1;
-    }
+    counts[..k + 1].fill(1);
     counts
 }
 
@@ -71,7 +61,7 @@ pub fn sums_but(
         if j != but {
             let first = begin_at(ends, j) + j;
             let end = wide(ends[j]) + j + 1;
-            let more = join(counts, first, end, rest, sums);
+            let more = join(&counts[first..end], rest, sums);
             sums = more;
         }
     }
@@ -84,24 +74,19 @@ pub fn allowed_counts(sums: &[u8; 1025], rest: usize) -> [u8; 1025]
     ensures { (length result ≡ 1025) × ((t : ℕ) → eqb (get_or result t 0) 1 ≡ (leb t rest && eqb (get_or sums.now (rest - t) 0) 1)) }
 {
     let mut allowed = [0u8; 1025];
-    for t in 0..rest + 1 {
-        if sums[rest - t] == 1 {
-            allowed[t] = 1;
-        }
-    }
+    allowed[..rest + 1].copy_from_slice(&sums[..rest + 1]);
+    allowed[..rest + 1].reverse();
     allowed
 }
 
 // Is every number of a set allowed?
-pub fn all_allowed(counts: &[u8; 2048], first: usize, end: usize, allowed: &[u8; 1025]) -> bool
-    requires { (first ≤ end) × (end ≤ 2048) × (end ≤ first + 1025) }
-    ensures { result ≡ true → (t : ℕ) → set_at counts.now first end t ≡ true → eqb (get_or allowed.now t 0) 1 ≡ true }
+pub fn all_allowed(set: &[u8], allowed: &[u8; 1025]) -> bool
+    requires { length set.now ≤ 1025 }
+    ensures { result ≡ true → (t : ℕ) → holds set.now t ≡ true → holds allowed.now t ≡ true }
 {
-    for i in first..end {
-        if counts[i] == 1 {
-            if allowed[i - first] != 1 {
-                return false;
-            }
+    for (t, &has) in set.iter().enumerate() {
+        if has == 1 && allowed[t] != 1 {
+            return false;
         }
     }
     true

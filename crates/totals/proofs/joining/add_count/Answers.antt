@@ -21,7 +21,8 @@ loop-n-preserved c =
     let loop = c.loop-n in
     let test : ℕ → Bool = λ x. leb c.args.t x && eqb (get_or c.args.before.now (x - c.args.t) 0) 1 in
     let behind : leb c.args.t loop.n ≡ true = le-leb _ _ loop.invariant.0 in
-    let room : loop.n < length loop.after = omega (arith, loop.invariant.2.whole, c.requires.2, c.requires.1, c.loop-n-test.true) in (
+    let long : length c.args.after.now ≡ 1025 = search rules in
+    let room : loop.n < length loop.after = omega (arith, loop.invariant.2.whole, c.requires.1, c.loop-n-test.true) in (
       omega (arith, loop.invariant.0),
       omega (arith, c.loop-n-test.true),
       elim c.if-before-n-eq1.branch [

@@ -1,6 +1,6 @@
-use Prim.Native.Nat.{◌≤◌}
+use lib.ListN.{take}
 use Rattle.totals.specs.Joining.{Joined}
 use Rattle.totals.proofs.joining.join.Given as goal
 
-abbrev pub invariant-loop-i : goal.invariant-loop-i
-invariant-loop-i l = (l.first ≤ l.i) × (l.i ≤ l.end) × Joined l.rest l.counts l.first l.i l.before l.after
+abbrev pub invariant-loop-t : goal.invariant-loop-t
+invariant-loop-t l = Joined l.rest (take l.t l.set) l.before l.after

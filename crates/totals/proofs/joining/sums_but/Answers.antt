@@ -1,10 +1,10 @@
 -- `totals::joining::sums_but` meets its contract. The loop's invariant: the array has the sums of the free cells and the blocks before j, but one. The measure
 -- is what is left. Rests on the laws of joined sets. Assumes nothing.
 use mathlib.Core.Path.{◌≡◌}
-use Prim.Native.Nat.{◌≤◌, ◌<◌}
+use Prim.Native.Nat.{◌+◌, ◌≤◌, ◌<◌}
 use native.Mathlib.Omega.{arith}
 use borrow.Author.Rules.{rules}
-use Rattle.totals.proofs.JoinedSets.{sums_below, blocks_joined, block_left_out}
+use Rattle.totals.proofs.JoinedSets.{sums_below, sums_same, set_between, blocks_joined, block_left_out}
 use Rattle.totals.proofs.joining.sums_but.Goals as goal
 use Rattle.totals.proofs.joining.sums_but.Goals.{After-wide, else-j-but, then-j-but}
 
@@ -28,8 +28,8 @@ overflow_add-end c = omega (arith, places c)
 pub overflow_add-end-then-j-but : goal.overflow_add-end-then-j-but
 overflow_add-end-then-j-but c = omega (arith, places c)
 
-pub join-more-requires : goal.join-more-requires
-join-more-requires c = (omega (arith, places c), omega (arith, places c), c.requires.2)
+pub slice_bounds-join-end : goal.slice_bounds-join-end
+slice_bounds-join-end c = omega (arith, places (goal.at.slice_bounds-join-end c).After-wide)
 
 pub loop-j-preserved : goal.loop-j-preserved
 loop-j-preserved c =
@@ -38,7 +38,9 @@ loop-j-preserved c =
       elim c.if-j-but.branch [
         | then-j-but w ↦ rw w.sums-is
             (blocks_joined c.args.counts.now c.args.ends.now c.args.but c.args.free loop.j w.if-j-but.true
-            (rw (w.begin_at.ensures, w.wide.ensures) at (w.join-more.ensures.sums _ loop.invariant.1)))
+            (rw (w.begin_at.ensures, w.wide.ensures) at
+            (sums_same (set_between c.args.counts.now (w.begin_at.result + loop.j) (w.wide.result + loop.j + 1)
+            (omega (arith, w.begin_at.ensures, w.wide.ensures, c.requires.0.rising loop.j c.loop-j-test.true))) (w.join-more.ensures.sums _ loop.invariant.1))))
         | else-j-but w ↦ rw w.sums-is (block_left_out c.args.counts.now c.args.ends.now c.args.but c.args.free loop.j w.if-j-but.false loop.invariant.1)
       ],
     )
