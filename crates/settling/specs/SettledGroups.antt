@@ -7,4 +7,4 @@ use Rattle.settling.specs.declared.Settled.{Settled}
 
 -- its groups are settled at their values, where the equations need and have room for so much at the start
 abbrev pub SettledFrom : Grouped → List ℕ → List ℕ → Settled → Type 0
-SettledFrom grouped needs rooms s = Settles grouped.sizes grouped.columns needs rooms (in_order s.begun) s.values s.needs s.rooms
+SettledFrom grouped needs rooms s = Settles grouped.sizes grouped.columns needs rooms (in_order s.begun) s.values s.unmet.needs s.unmet.rooms

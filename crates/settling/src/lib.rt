@@ -12,7 +12,7 @@ use blocks::slots_at;
 use grid::window::wide;
 use groups::Grouped;
 use orders::Order;
-use search::lower;
+use search::Unmet;
 
 // The least and the most mines that the equations of a group leave it; none where the least is the greater.
 #[derive(Clone, Copy)]
@@ -22,16 +22,16 @@ pub struct Span {
 }
 
 // What the equations at these places leave a group of so many cells: no more than each needs, and so many that the cells of its other groups do for the rest.
-fn span_left(places: &[u16], size: u8, needs: &[u8; 1024], rooms: &[u8; 1024]) -> Span
+fn span_left(places: &[u16], size: u8, unmet: &Unmet) -> Span
     requires below { all (λ e. ltb e 1024) places.now ≡ true }
-    requires size_bound { (size ≤ 8) × ((e : ℕ) → get_or needs.now e 0 ≤ 8) × ((e : ℕ) → get_or rooms.now e 0 ≤ 8) }
-    ensures { Leaves size places.now needs.now rooms.now result.least result.most }
+    requires size_bound { (size ≤ 8) × ((e : ℕ) → get_or unmet.now.needs e 0 ≤ 8) × ((e : ℕ) → get_or unmet.now.rooms e 0 ≤ 8) }
+    ensures { Leaves size places.now unmet.now.needs unmet.now.rooms result.least result.most }
 {
     let mut least = 0;
     let mut most = size;
     for &place in places {
-        let need = needs[wide(place)];
-        let room = rooms[wide(place)];
+        let need = unmet.needs[wide(place)];
+        let room = unmet.rooms[wide(place)];
         most = most.min(need);
         least = least.max((need + size).saturating_sub(room));
     }
@@ -43,9 +43,8 @@ fn span_left(places: &[u16], size: u8, needs: &[u8; 1024], rooms: &[u8; 1024]) -
 pub struct Settled {
     pub begun: Order,
     pub values: [u8; 1024],
-    pub needs: [u8; 1024],
-    pub rooms: [u8; 1024],
-    pub ghost state: { State 1024 needs rooms },
+    pub unmet: Unmet,
+    pub ghost state: { State 1024 unmet.needs unmet.rooms },
 }
 
 impl Settled {
@@ -60,13 +59,12 @@ impl Settled {
     {
         let size = grouped.sizes[group];
         let column = slots_at(&grouped.columns, group);
-        let span = span_left(column.as_slice(), size, &self.needs, &self.rooms);
+        let span = span_left(column.as_slice(), size, &self.unmet);
         if span.least != span.most {
             return;
         }
         self.values[group] = span.most;
-        lower(column, span.most, &mut self.needs);
-        lower(column, size, &mut self.rooms);
+        self.unmet.set_group(column, size, span.most);
         self.begun.add_group(group as u16);
     }
 
@@ -94,8 +92,10 @@ impl Settled {
         let mut settled = Settled {
             begun: Order::empty(),
             values: [0; 1024],
-            needs: grouped.needs,
-            rooms: grouped.rooms,
+            unmet: Unmet {
+                needs: grouped.needs,
+                rooms: grouped.rooms,
+            },
         };
         loop {
             let before = settled.begun.count;

@@ -29,29 +29,29 @@ on_board c =
 
 -- it is left one value
 one_value : (c : Else-span)
-    → Leaves (get_or c.args.grouped.now.sizes c.args.group 0) (slot_cells c.args.grouped.now.columns c.args.group) c.args.self.now.needs c.args.self.now.rooms c.span_left-span.result.most
+    → Leaves (get_or c.args.grouped.now.sizes c.args.group 0) (slot_cells c.args.grouped.now.columns c.args.group) c.args.self.now.unmet.needs c.args.self.now.unmet.rooms c.span_left-span.result.most
     c.span_left-span.result.most
 one_value c = rw (c.if-span.false, c.as_slice.ensures, column (goal.at.Else-span c).After-slots_at-column) at c.span_left-span.ensures
 
 -- so it can take it
 can : (c : Else-span)
-    → possible (get_or c.args.grouped.now.sizes c.args.group 0) (slot_cells c.args.grouped.now.columns c.args.group) c.args.self.now.needs c.args.self.now.rooms c.span_left-span.result.most ≡ true
+    → possible (get_or c.args.grouped.now.sizes c.args.group 0) (slot_cells c.args.grouped.now.columns c.args.group) c.args.self.now.unmet.needs c.args.self.now.unmet.rooms c.span_left-span.result.most ≡ true
 can c = (one_value c).each c.span_left-span.result.most (omega arith) (omega arith)
 
-pub lower-requires-clause-cells_value_2 : goal.lower-requires-clause-cells_value_2
-lower-requires-clause-cells_value_2 c =
-    rw (column (goal.at.lower-requires-clause-cells_value_2 c).After-slots_at-column)
-    (possible_needs (get_or c.args.grouped.now.sizes c.args.group 0) (slot_cells c.args.grouped.now.columns c.args.group) c.args.self.now.needs c.args.self.now.rooms c.span_left-span.result.most
-    (can (goal.at.lower-requires-clause-cells_value_2 c).Else-span))
+pub set_group-requires-clause-enough_needs : goal.set_group-requires-clause-enough_needs
+set_group-requires-clause-enough_needs c =
+    rw (column (goal.at.set_group-requires-clause-enough_needs c).After-slots_at-column)
+    (possible_needs (get_or c.args.grouped.now.sizes c.args.group 0) (slot_cells c.args.grouped.now.columns c.args.group) c.args.self.now.unmet.needs c.args.self.now.unmet.rooms c.span_left-span.result.most
+    (can (goal.at.set_group-requires-clause-enough_needs c).Else-span))
 
-pub lower-requires-2-clause-cells_value_2 : goal.lower-requires-2-clause-cells_value_2
-lower-requires-2-clause-cells_value_2 c =
-    rw (column (goal.at.lower-requires-2-clause-cells_value_2 c).After-slots_at-column)
-    (possible_rooms (get_or c.args.grouped.now.sizes c.args.group 0) (slot_cells c.args.grouped.now.columns c.args.group) c.args.self.now.needs c.args.self.now.rooms c.span_left-span.result.most
-    (can (goal.at.lower-requires-2-clause-cells_value_2 c).Else-span))
+pub set_group-requires-clause-enough_rooms : goal.set_group-requires-clause-enough_rooms
+set_group-requires-clause-enough_rooms c =
+    rw (column (goal.at.set_group-requires-clause-enough_rooms c).After-slots_at-column)
+    (possible_rooms (get_or c.args.grouped.now.sizes c.args.group 0) (slot_cells c.args.grouped.now.columns c.args.group) c.args.self.now.unmet.needs c.args.self.now.unmet.rooms c.span_left-span.result.most
+    (can (goal.at.set_group-requires-clause-enough_rooms c).Else-span))
 
-pub invariant_of-self-2 : goal.invariant_of-self-2
-invariant_of-self-2 c = record { state = rw (c.lower.ensures, c.lower-2.ensures) (state_lowered c.span_left-span.result.most (get_or c.args.grouped.now.sizes c.args.group 0) (take c.slots_at-column.result.len c.slots_at-column.result.cells) c.args.self.now.state) }
+pub invariant_of-self : goal.invariant_of-self
+invariant_of-self c = record { state = rw (c.set_group.ensures.needs_after, c.set_group.ensures.rooms_after) (state_lowered c.span_left-span.result.most (get_or c.args.grouped.now.sizes c.args.group 0) (take c.slots_at-column.result.len c.slots_at-column.result.cells) c.args.self.now.state) }
 
 pub returns-clause-by_index : goal.returns-clause-by_index
 returns-clause-by_index c =
@@ -60,8 +60,8 @@ returns-clause-by_index c =
 pub returns-clause-by_index_2 : goal.returns-clause-by_index_2
 returns-clause-by_index_2 c =
     let cells = column (goal.at.returns-clause-by_index_2 c).After-slots_at-column in
-    let needs_is = rw cells at c.lower.ensures in
-    let rooms_is = rw cells at c.lower-2.ensures in
+    let needs_is = rw cells at c.set_group.ensures.needs_after in
+    let rooms_is = rw cells at c.set_group.ensures.rooms_after in
     let more : in_order c.add_group.new.self ≡ in_order c.args.self.now.begun ++ (c.args.group ∷ []) =
     c.add_group.ensures ∙ add_new_push (in_order c.args.self.now.begun) c.args.group [] c.requires.new in
     λ needs rooms h. rw (needs_is, rooms_is, more)
