@@ -16,7 +16,8 @@ use Rattle.lists.proofs.Tests.{Decided, decided, clash, and_left, and_right}
 use Rattle.lists.proofs.Elements.{replicate_all}
 use Rattle.lists.proofs.Rearranged.{length_range}
 use Rattle.lists.proofs.Arrays.{length_pad, pad_read}
-use Rattle.enumeration.specs.Asking.{Noted, Only, Stay}
+use Rattle.enumeration.specs.Asking.{Noted, Only, Stay, Stays}
+use Rattle.enumeration.specs.declared.asking.Shown.{Shown}
 use Rattle.lists.proofs.ReadBack.{range_made}
 
 -- ---- one group after another
@@ -94,6 +95,13 @@ stay_same marks = record { at = λ g m. m }
 
 pub stay_twice : {a b c : List ℕ} → Stay a b → Stay b c → Stay a c
 stay_twice s r = record { at = λ g m. r.at g (s.at g m) }
+
+-- nor a mark of a mine or of a free cell
+pub stays_same : (marks : Shown) → Stays marks marks
+stays_same marks = record { mines = stay_same marks.mined; frees = stay_same marks.unfilled }
+
+pub stays_twice : {a b c : Shown} → Stays a b → Stays b c → Stays a c
+stays_twice s r = record { mines = stay_twice s.mines r.mines; frees = stay_twice s.frees r.frees }
 
 -- ---- only groups at which a test passes
 

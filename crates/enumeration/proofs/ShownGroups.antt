@@ -25,15 +25,20 @@ use Rattle.groups.specs.Groups.{column, firsts, group_of_cell, sizes}
 use Rattle.groups.specs.Grouping.{Combinable, grouped}
 use Rattle.groups.proofs.GroupLaws.{group_of_below, size_positive, firsts_some, column_below, column_once}
 use Rattle.search.specs.Solutions.{solutions}
-use Rattle.search.specs.Searching.{Ordered, State}
+use Rattle.search.specs.Searching.{State, OrderOf}
+use Rattle.search.specs.declared.Unmet.{Unmet}
 use Rattle.search.proofs.Orders.{EachOnce}
-use Rattle.search.proofs.ReadingGroups.{groups_few, groups_read, equations_read, columns_read, columns_long, sizes_read, group_small, grouped_ordered, grouped_state}
+use Rattle.search.proofs.ReadingGroups.{groups_few, groups_read, equations_read, columns_read, sizes_read, group_small, grouped_ordered, grouped_state}
 use Rattle.search.proofs.ListedSolutions.{negative_none}
 use Rattle.orders.specs.Ordering.{Reach}
-use Rattle.settling.specs.Settling.{Columns, Settles}
+use Rattle.orders.specs.WholeOrders.{in_order}
+use Rattle.settling.specs.Settling.{Columns}
+use Rattle.settling.specs.SettledGroups.{SettledFrom}
+use Rattle.settling.specs.declared.Settled.{Settled}
 use Rattle.enumeration.specs.Enumeration.{never_mined, always_mined}
-use Rattle.enumeration.specs.Asking.{shown, OverGroups, ShownOnly, Told, SettledTold, Stay}
-use Rattle.enumeration.proofs.NotedMarks.{only_none, only_whole, stay_same, stay_twice}
+use Rattle.enumeration.specs.Asking.{shown, OverGroups, ShownOnly, Told, SettledTold, Stays}
+use Rattle.enumeration.specs.declared.asking.Shown.{Shown}
+use Rattle.enumeration.proofs.NotedMarks.{only_none, only_whole, stays_same, stays_twice}
 use Rattle.lists.proofs.StoredAndKept.{all_mapped}
 
 -- ---- the groups of a block
@@ -79,34 +84,34 @@ module _ (cells slots rests : List ℕ) (bounds : Bounds) (arrays : Arrays cells
 -- ---- what is told
 
 -- nothing is marked
-pub shown_start : (b : Block) → ShownOnly b (replicate 1024 0) (replicate 1024 0)
+pub shown_start : (b : Block) → ShownOnly b record { mined = replicate 1024 0; unfilled = replicate 1024 0 }
 shown_start b =
     record {
       mines = only_none (length (firsts b)) (λ (g : ℕ). not (never_mined b g));
       frees = only_none (length (firsts b)) (λ (g : ℕ). not (always_mined b g));
     }
 
-module _ (b : Block) {mined unfilled : List ℕ} where
+module _ (b : Block) {marks : Shown} where
   -- with more marks a group is still told
-  pub told_stay : {after_mined after_unfilled : List ℕ} (g : ℕ) → Stay mined after_mined → Stay unfilled after_unfilled → Told b mined unfilled g → Told b after_mined after_unfilled g
-  told_stay g m u t = record { mine = λ e. m.at g (t.mine e); free = λ e. u.at g (t.free e) }
+  pub told_stay : {after : Shown} (g : ℕ) → Stays marks after → Told b marks g → Told b after g
+  told_stay g stays t = record { mine = λ e. stays.mines.at g (t.mine e); free = λ e. stays.frees.at g (t.free e) }
 
-  module _ (s : ShownOnly b mined unfilled) where
+  module _ (s : ShownOnly b marks) where
     -- with both marks it is told
-    pub told_both : (g : ℕ) → 2 ≤ get_or mined g 0 + get_or unfilled g 0 → Told b mined unfilled g
+    pub told_both : (g : ℕ) → 2 ≤ get_or marks.mined g 0 + get_or marks.unfilled g 0 → Told b marks g
     told_both g h = record { mine = λ e. omega (arith, s.mines.bits g, s.frees.bits g); free = λ e. omega (arith, s.mines.bits g, s.frees.bits g) }
 
     -- where all groups are told, the marks are what the solutions show
-    pub shown_whole : length (firsts b) ≤ 1024 → ((g : ℕ) → g < length (firsts b) → Told b mined unfilled g) → record { mined = mined; unfilled = unfilled } ≡ shown b
+    pub shown_whole : length (firsts b) ≤ 1024 → ((g : ℕ) → g < length (firsts b) → Told b marks g) → marks ≡ shown b
     unfolding shown
     shown_whole few told =
-        ap (λ (l : List ℕ). record { mined = l; unfilled = unfilled })
-        (only_whole (length (firsts b)) (λ (g : ℕ). not (never_mined b g)) mined s.mines few (λ g h t. (told g h).mine (not-true (never_mined b g) t)))
+        ap (λ (l : List ℕ). record { mined = l; unfilled = marks.unfilled })
+        (only_whole (length (firsts b)) (λ (g : ℕ). not (never_mined b g)) marks.mined s.mines few (λ g h t. (told g h).mine (not-true (never_mined b g) t)))
         ∙ ap (λ (l : List ℕ). record { mined = pad 1024 0 (map (λ (g : ℕ). bit (not (never_mined b g))) (range 0 (length (firsts b)))); unfilled = l })
-        (only_whole (length (firsts b)) (λ (g : ℕ). not (always_mined b g)) unfilled s.frees few (λ g h t. (told g h).free (not-true (always_mined b g) t)))
+        (only_whole (length (firsts b)) (λ (g : ℕ). not (always_mined b g)) marks.unfilled s.frees few (λ g h t. (told g h).free (not-true (always_mined b g) t)))
 
     -- of a block with a negative remainder nothing is to be told
-    pub shown_negative : Combinable b → (grouped b).negative ≡ true → record { mined = mined; unfilled = unfilled } ≡ shown b
+    pub shown_negative : Combinable b → (grouped b).negative ≡ true → marks ≡ shown b
     shown_negative k e =
         let none : solutions b ≡ [] = negative_none b e in
         shown_whole (groups_few b k)
@@ -119,11 +124,10 @@ module _ (b : Block) {mined unfilled : List ℕ} where
 
 -- the arrays that combine answers, before any group is settled
 module _ (b : Block) (k : Combinable b) where
-  pub start_columns : Columns (grouped b).groups (grouped b).sizes (grouped b).columns
+  pub start_columns : Columns (grouped b)
   start_columns =
       record {
         few = omega (arith, groups_read b, groups_few b k);
-        whole = columns_long b k;
         at = λ g h.
             let here : g < length (firsts b) = omega (arith, groups_read b) in
             let first = get_or (firsts b) g 0 in
@@ -147,9 +151,8 @@ module _ (b : Block) (k : Combinable b) where
       }
 
 -- and with some settled
-pub over_grouped : (b : Block) (r : Grouped) → r ≡ grouped b → Combinable b → r.negative ≡ false
-    → {settled values needs rooms : List ℕ} → State 1024 needs rooms → Settles r.sizes r.columns r.needs r.rooms settled values needs rooms
-    → OverGroups b r.groups r.equations r.sizes r.columns settled values needs rooms
+pub over_grouped : (b : Block) (r : Grouped) → r ≡ grouped b → Combinable b → r.negative ≡ false → (s : Settled) → SettledFrom r r.needs r.rooms s
+    → OverGroups b r (in_order s.begun) s.values s.unmet
 over_grouped b r e k positive s settles =
     let equations_is = ap (λ (x : Grouped). x.equations) e in
     let needs_is = ap (λ (x : Grouped). x.needs) e in
@@ -157,83 +160,71 @@ over_grouped b r e k positive s settles =
     record {
       combinable = k;
       positive = sym (ap (λ (x : Grouped). x.negative) e) ∙ positive;
-      is_groups = ap (λ (x : Grouped). x.groups) e;
-      is_equations = equations_is;
-      is_sizes = ap (λ (x : Grouped). x.sizes) e;
-      is_columns = ap (λ (x : Grouped). x.columns) e;
+      is = e;
       state = record {
-        whole_needs = s.whole_needs;
-        whole_rooms = s.whole_rooms;
-        needs_small = s.needs_small;
-        rooms_small = s.rooms_small;
+        whole_needs = s.state.whole_needs;
+        whole_rooms = s.state.whole_rooms;
+        needs_small = s.state.needs_small;
+        rooms_small = s.state.rooms_small;
         past = λ i h. omega (arith, rw needs_is at (settles.less i), (grouped_state b k).past i (rw equations_is at h));
       };
       settles = rw (needs_is, rooms_is) at settles;
     }
 
--- of the block whose arrays these are only what some solution shows is marked, if it was at the start; no mark is taken away; and the groups before g are told,
+-- of the block whose groups these are only what some solution shows is marked, if it was at the start; no mark is taken away; and the groups before g are told,
 -- if the settled ones were
-pub record Telling (groups equations : ℕ) (sizes columns settled values needs rooms start_mined start_unfilled mined unfilled : List ℕ) (g : ℕ) : Type 0 where
-  pub only : (b : Block) → OverGroups b groups equations sizes columns settled values needs rooms → ShownOnly b start_mined start_unfilled → ShownOnly b mined unfilled
-  pub stays : Stay start_mined mined × Stay start_unfilled unfilled
-  pub told : (b : Block) → OverGroups b groups equations sizes columns settled values needs rooms → ShownOnly b start_mined start_unfilled
-      → SettledTold b settled start_mined start_unfilled → (j : ℕ) → j < g → Told b mined unfilled j
+pub record Telling (combined : Grouped) (settled values : List ℕ) (unmet : Unmet) (start marks : Shown) (g : ℕ) : Type 0 where
+  pub only : (b : Block) → OverGroups b combined settled values unmet → ShownOnly b start → ShownOnly b marks
+  pub stays : Stays start marks
+  pub told : (b : Block) → OverGroups b combined settled values unmet → ShownOnly b start → SettledTold b settled start → (j : ℕ) → j < g → Told b marks j
 
-pub telling_start : {groups equations : ℕ} {sizes columns settled values needs rooms : List ℕ} (mined unfilled : List ℕ)
-    → Telling groups equations sizes columns settled values needs rooms mined unfilled mined unfilled 0
-telling_start mined unfilled = record { only = λ b over s. s; stays = (stay_same mined, stay_same unfilled); told = λ b over s t j h. absurd (not-suc-le-zero h) }
+pub telling_start : (combined : Grouped) (settled values : List ℕ) (unmet : Unmet) (marks : Shown) → Telling combined settled values unmet marks marks 0
+telling_start combined settled values unmet marks =
+    record { only = λ b over s. s; stays = stays_same marks; told = λ b over s t j h. absurd (not-suc-le-zero h) }
 
-module _ {groups equations : ℕ} {sizes columns settled values needs rooms start_mined start_unfilled mined unfilled : List ℕ} {g : ℕ}
-    (t : Telling groups equations sizes columns settled values needs rooms start_mined start_unfilled mined unfilled g) where
+module _ {combined : Grouped} {settled values : List ℕ} {unmet : Unmet} {start marks : Shown} {g : ℕ} (t : Telling combined settled values unmet start marks g) where
   -- the next group is told, with more marks or as they are
-  telling_next : {after_mined after_unfilled : List ℕ} → Stay mined after_mined → Stay unfilled after_unfilled
-      → ((b : Block) → OverGroups b groups equations sizes columns settled values needs rooms → ShownOnly b start_mined start_unfilled → ShownOnly b after_mined after_unfilled)
-      → ((b : Block) → OverGroups b groups equations sizes columns settled values needs rooms → ShownOnly b start_mined start_unfilled → SettledTold b settled start_mined start_unfilled
-      → Told b after_mined after_unfilled g)
-      → Telling groups equations sizes columns settled values needs rooms start_mined start_unfilled after_mined after_unfilled (g + 1)
-  telling_next {after_mined} {after_unfilled} m u only here =
+  telling_next : (after : Shown) → Stays marks after → ((b : Block) → OverGroups b combined settled values unmet → ShownOnly b start → ShownOnly b after)
+      → ((b : Block) → OverGroups b combined settled values unmet → ShownOnly b start → SettledTold b settled start → Told b after g)
+      → Telling combined settled values unmet start after (g + 1)
+  telling_next after stays only here =
       record {
         only = only;
-        stays = (stay_twice t.stays.0 m, stay_twice t.stays.1 u);
+        stays = stays_twice t.stays stays;
         told = λ b over s k j below. next b over s k j below (decided (eqb j g));
       }
     where
-      next : (b : Block) → OverGroups b groups equations sizes columns settled values needs rooms → ShownOnly b start_mined start_unfilled → SettledTold b settled start_mined start_unfilled
-          → (j : ℕ) → j < g + 1 → Decided (eqb j g) → Told b after_mined after_unfilled j
+      next : (b : Block) → OverGroups b combined settled values unmet → ShownOnly b start → SettledTold b settled start → (j : ℕ) → j < g + 1 → Decided (eqb j g) → Told b after j
       next b over s k j below (inl e) = rw (eqb-true j g e) (here b over s k)
-      next b over s k j below (inr e) = told_stay b j m u (t.told b over s k j (omega (arith, eqb-false j g e)))
+      next b over s k j below (inr e) = told_stay b j stays (t.told b over s k j (omega (arith, eqb-false j g e)))
 
   -- it is settled
-  pub telling_settled : has settled g ≡ true → Telling groups equations sizes columns settled values needs rooms start_mined start_unfilled mined unfilled (g + 1)
-  telling_settled h = telling_next (stay_same mined) (stay_same unfilled) t.only (λ b over s k. told_stay b g t.stays.0 t.stays.1 (k.told g h))
+  pub telling_settled : has settled g ≡ true → Telling combined settled values unmet start marks (g + 1)
+  telling_settled h = telling_next marks (stays_same marks) t.only (λ b over s k. told_stay b g t.stays (k.told g h))
 
   -- it has both marks
-  pub telling_known : 2 ≤ get_or mined g 0 + get_or unfilled g 0 → Telling groups equations sizes columns settled values needs rooms start_mined start_unfilled mined unfilled (g + 1)
-  telling_known h = telling_next (stay_same mined) (stay_same unfilled) t.only (λ b over s k. told_both b (t.only b over s) g h)
+  pub telling_known : 2 ≤ get_or marks.mined g 0 + get_or marks.unfilled g 0 → Telling combined settled values unmet start marks (g + 1)
+  telling_known h = telling_next marks (stays_same marks) t.only (λ b over s k. told_both b (t.only b over s) g h)
 
   -- it is asked for
-  pub telling_asked : {after_mined after_unfilled : List ℕ} → Stay mined after_mined → Stay unfilled after_unfilled
-      → ((b : Block) → OverGroups b groups equations sizes columns settled values needs rooms → ShownOnly b mined unfilled → ShownOnly b after_mined after_unfilled × Told b after_mined after_unfilled g)
-      → Telling groups equations sizes columns settled values needs rooms start_mined start_unfilled after_mined after_unfilled (g + 1)
-  telling_asked m u asked = telling_next m u (λ b over s. (asked b over (t.only b over s)).0) (λ b over s k. (asked b over (t.only b over s)).1)
+  pub telling_asked : (after : Shown) → Stays marks after → ((b : Block) → OverGroups b combined settled values unmet → ShownOnly b marks → ShownOnly b after × Told b after g)
+      → Telling combined settled values unmet start after (g + 1)
+  telling_asked after stays asked = telling_next after stays (λ b over s. (asked b over (t.only b over s)).0) (λ b over s k. (asked b over (t.only b over s)).1)
 
--- ---- what the arrays of a block let the functions be asked
+-- ---- what the groups of a block let the functions be asked
 
-module _ {b : Block} {groups equations : ℕ} {sizes columns settled values needs rooms : List ℕ} (over : OverGroups b groups equations sizes columns settled values needs rooms) where
-  pub over_groups : groups ≡ length (firsts b)
-  over_groups = over.is_groups ∙ groups_read b
+module _ {b : Block} {combined : Grouped} {settled values : List ℕ} {unmet : Unmet} (over : OverGroups b combined settled values unmet) where
+  pub over_groups : combined.groups ≡ length (firsts b)
+  over_groups = ap (λ (x : Grouped). x.groups) over.is ∙ groups_read b
 
-  pub over_few : groups ≤ 1024
+  pub over_few : combined.groups ≤ 1024
   over_few = omega (arith, over_groups, groups_few b over.combinable)
 
-  pub over_columns : length columns ≡ 8192
-  over_columns = rw over.is_columns (columns_long b over.combinable)
+  pub over_some : (g : ℕ) → g < combined.groups → 0 < get_or combined.sizes g 0
+  over_some g h = rw over.is (group_some b over.combinable g (rw over.is at h))
 
-  pub over_some : (g : ℕ) → g < groups → 0 < get_or sizes g 0
-  over_some g h = rw over.is_sizes (group_some b over.combinable g (rw over.is_groups at h))
-
-  pub over_ordered : (order : List ℕ) → length order ≡ 1024 → all (λ g. ltb g groups) (take groups order) ≡ true → nodup (take groups order) ≡ true
-      → Ordered order groups equations sizes columns
+  pub over_ordered : (order : List ℕ) → length order ≡ 1024 → all (λ g. ltb g combined.groups) (take combined.groups order) ≡ true → nodup (take combined.groups order) ≡ true
+      → OrderOf combined order
   over_ordered order whole below once =
-      let each : EachOnce (take groups order) groups = record { long = length-take-le groups order (omega (arith, over_few)); below = below; once = once } in
-      rw (over.is_groups, over.is_equations, over.is_sizes, over.is_columns) (grouped_ordered b over.combinable order whole (rw over.is_groups at each))
+      let each : EachOnce (take combined.groups order) combined.groups = record { long = length-take-le combined.groups order (omega (arith, over_few)); below = below; once = once } in
+      rw over.is (grouped_ordered b over.combinable order whole (rw over.is at each))

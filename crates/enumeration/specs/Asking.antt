@@ -6,7 +6,9 @@ use Rattle.lists.specs.Lists.{empty, range, has, bit, pad}
 use Rattle.blocks.specs.Blocks.{Block}
 use Rattle.groups.specs.Groups.{firsts}
 use Rattle.groups.specs.Grouping.{Combinable, grouped}
-use Rattle.search.specs.Searching.{State, unset, Kept}
+use Rattle.groups.specs.declared.Grouped.{Grouped}
+use Rattle.search.specs.Searching.{StateOf, unset_of, Kept}
+use Rattle.search.specs.declared.Unmet.{Unmet}
 use Rattle.settling.specs.Settling.{Settles}
 use Rattle.enumeration.specs.Enumeration.{never_mined, always_mined}
 use Rattle.enumeration.specs.declared.asking.Shown.{Shown}
@@ -29,24 +31,21 @@ pub record Noted (groups : ℕ) (f : ℕ → Bool) (before after : List ℕ) : T
 -- ---- a search for one solution
 
 -- where there is no row nothing is marked, else what values show: those of one of the rows for the groups still unset, and the ones that were there for the others
-pub record Answered (groups at : ℕ) (order sizes settled : List ℕ) (rows : List (List ℕ)) (mined unfilled after_mined after_unfilled : List ℕ) : Type 0 where
-  pub none : empty rows ≡ true → (after_mined ≡ mined) × (after_unfilled ≡ unfilled)
+pub record Answered (grouped : Grouped) (at : ℕ) (order settled : List ℕ) (rows : List (List ℕ)) (before after : Shown) : Type 0 where
+  pub none : empty rows ≡ true → after ≡ before
   pub one : empty rows ≡ false
-      → (values : List ℕ) × Kept (unset order groups at) settled values × Memᴰ (map (λ (g : ℕ). get_or values g 0) (unset order groups at)) rows
-      × Noted groups (mine_in values) mined after_mined × Noted groups (free_in sizes values) unfilled after_unfilled
+      → (values : List ℕ) × Kept (unset_of grouped order at) settled values × Memᴰ (map (λ (g : ℕ). get_or values g 0) (unset_of grouped order at)) rows
+      × Noted grouped.groups (mine_in values) before.mined after.mined × Noted grouped.groups (free_in grouped.sizes values) before.unfilled after.unfilled
 
 -- ---- what the solutions of a block show
 
--- the arrays are what combine answers for a block without a negative remainder, with some groups settled at their values
-pub record OverGroups (b : Block) (groups equations : ℕ) (sizes columns settled values needs rooms : List ℕ) : Type 0 where
+-- the struct is what combine answers for a block without a negative remainder, with some groups settled at their values
+pub record OverGroups (b : Block) (r : Grouped) (settled values : List ℕ) (unmet : Unmet) : Type 0 where
   pub combinable : Combinable b
   pub positive : (grouped b).negative ≡ false
-  pub is_groups : groups ≡ (grouped b).groups
-  pub is_equations : equations ≡ (grouped b).equations
-  pub is_sizes : sizes ≡ (grouped b).sizes
-  pub is_columns : columns ≡ (grouped b).columns
-  pub state : State equations needs rooms
-  pub settles : Settles sizes columns (grouped b).needs (grouped b).rooms settled values needs rooms
+  pub is : r ≡ grouped b
+  pub state : StateOf r unmet
+  pub settles : Settles r.sizes r.columns (grouped b).needs (grouped b).rooms settled values unmet.needs unmet.rooms
 
 -- of the first groups, only some that pass a test are marked
 pub record Only (groups : ℕ) (t : ℕ → Bool) (marks : List ℕ) : Type 0 where
@@ -55,22 +54,27 @@ pub record Only (groups : ℕ) (t : ℕ → Bool) (marks : List ℕ) : Type 0 wh
   pub right : (g : ℕ) → get_or marks g 0 ≡ 1 → (g < groups) × (t g ≡ true)
 
 -- only what some solution shows is marked
-pub record ShownOnly (b : Block) (mined unfilled : List ℕ) : Type 0 where
-  pub mines : Only (length (firsts b)) (λ (g : ℕ). not (never_mined b g)) mined
-  pub frees : Only (length (firsts b)) (λ (g : ℕ). not (always_mined b g)) unfilled
+pub record ShownOnly (b : Block) (marks : Shown) : Type 0 where
+  pub mines : Only (length (firsts b)) (λ (g : ℕ). not (never_mined b g)) marks.mined
+  pub frees : Only (length (firsts b)) (λ (g : ℕ). not (always_mined b g)) marks.unfilled
 
 -- of one group all that some solution shows is marked
-pub record Told (b : Block) (mined unfilled : List ℕ) (g : ℕ) : Type 0 where
-  pub mine : never_mined b g ≡ false → get_or mined g 0 ≡ 1
-  pub free : always_mined b g ≡ false → get_or unfilled g 0 ≡ 1
+pub record Told (b : Block) (marks : Shown) (g : ℕ) : Type 0 where
+  pub mine : never_mined b g ≡ false → get_or marks.mined g 0 ≡ 1
+  pub free : always_mined b g ≡ false → get_or marks.unfilled g 0 ≡ 1
 
 -- the same of each settled group
-pub record SettledTold (b : Block) (settled mined unfilled : List ℕ) : Type 0 where
-  pub told : (g : ℕ) → has settled g ≡ true → Told b mined unfilled g
+pub record SettledTold (b : Block) (settled : List ℕ) (marks : Shown) : Type 0 where
+  pub told : (g : ℕ) → has settled g ≡ true → Told b marks g
 
 -- no mark is taken away
 pub record Stay (before after : List ℕ) : Type 0 where
   pub at : (g : ℕ) → get_or before g 0 ≡ 1 → get_or after g 0 ≡ 1
+
+-- and no mark of a mine or of a free cell
+pub record Stays (before after : Shown) : Type 0 where
+  pub mines : Stay before.mined after.mined
+  pub frees : Stay before.unfilled after.unfilled
 
 -- what its solutions show of each group: a mine in it, a free cell in it
 unfoldable pub shown : Block → Shown
