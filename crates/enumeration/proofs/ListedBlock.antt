@@ -21,9 +21,8 @@ use Rattle.lists.proofs.Kept.{keep_ext}
 use Rattle.lists.proofs.Occurrences.{all_in, empty_nil, not_empty}
 use Rattle.lists.proofs.ReadBack.{range_made}
 use Rattle.blocks.specs.Blocks.{Block}
-use Rattle.blocks.specs.Places.{block_from}
+use Rattle.blocks.specs.Places.{cells_from, block_from}
 use Rattle.blocks.specs.declared.Bounds.{Bounds}
-use Rattle.marks.specs.Marked.{cells_with}
 use Rattle.groups.specs.declared.Grouped.{Grouped}
 use Rattle.groups.specs.Groups.{alike, firsts, groups, group_of_cell, sizes}
 use Rattle.groups.specs.Grouping.{Combinable, grouped}
@@ -150,18 +149,18 @@ module _ (cells slots rests : List ℕ) (bounds : Bounds) (k : Combinable (block
 
   -- the cells of groups that are not marked
   listed_where : (marks : List ℕ) (t : ℕ → Bool) → ((g : ℕ) → g < length (firsts b) → get_or marks g 0 ≡ bit (not (t g)))
-      → unmarked_groups (grouped b).group_of marks cells bounds.first_cell bounds.end_cell 0 (grouped b).groups ≡ cells_where b t
-  unfolding unmarked_groups cells_with
+      → unmarked_groups (grouped b).group_of marks (cells_from cells bounds.first_cell bounds.end_cell) 0 (grouped b).groups ≡ cells_where b t
+  unfolding unmarked_groups
   listed_where marks t read =
       let many : (grouped b).groups - 0 ≡ length (firsts b) = omega (arith, groups_read b) in
       rw (many, ← block_cells cells slots rests bounds) (unmarked_cells_lem b k marks t read)
 
   -- the two lists
   module _ (r : Grouped) (is : r ≡ grouped b) (s : Shown) (told : s ≡ shown b) where
-    pub safe_listed : unmarked_groups r.group_of s.mined cells bounds.first_cell bounds.end_cell 0 r.groups ≡ safe_cells b
+    pub safe_listed : unmarked_groups r.group_of s.mined (cells_from cells bounds.first_cell bounds.end_cell) 0 r.groups ≡ safe_cells b
     unfolding safe_cells
     safe_listed = rw (is, told) (listed_where (shown b).mined (never_mined b) (mined_read b k))
 
-    pub mines_listed : unmarked_groups r.group_of s.unfilled cells bounds.first_cell bounds.end_cell 0 r.groups ≡ mine_cells b
+    pub mines_listed : unmarked_groups r.group_of s.unfilled (cells_from cells bounds.first_cell bounds.end_cell) 0 r.groups ≡ mine_cells b
     unfolding mine_cells
     mines_listed = rw (is, told) (listed_where (shown b).unfilled (always_mined b) (unfilled_read b k))

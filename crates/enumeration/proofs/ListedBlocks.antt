@@ -9,7 +9,9 @@ use native.Mathlib.Nat.{zero-add}
 use native.Mathlib.Omega.{arith}
 use lib.ListN.{length, get_or, drop, replicate}
 use lib.Seq.{sets}
-use Rattle.lists.specs.Lists.{empty, joined}
+use Rattle.std.specs.Prelude.{Result, Ok, Err}
+use lib.Dec.{ltb}
+use Rattle.lists.specs.Lists.{all, empty, joined, pad}
 use Rattle.lists.proofs.Arrays.{drop_more, drop_none}
 use Rattle.lists.proofs.Joined.{filled_sets}
 use Rattle.lists.proofs.Unions.{mem_at}
@@ -18,14 +20,19 @@ use Rattle.lists.proofs.Storing.{Storing, storing_start}
 use Rattle.lists.proofs.StoredAndKept.{run_room, run_next, run_end}
 use Rattle.blocks.specs.Blocks.{Block}
 use Rattle.blocks.specs.BlockSets.{block_set, blocks_of, Whole}
-use Rattle.blocks.specs.Places.{Arrays, bounds_at, block_from}
+use Rattle.blocks.specs.Places.{Arrays, bounds_at, cells_from, block_from}
 use Rattle.blocks.specs.declared.Bounds.{Bounds}
 use Rattle.blocks.specs.declared.BlockSet.{BlockSet}
 use Rattle.blocks.proofs.Reading.{no_block}
 use Rattle.blocks.proofs.Behind.{small_first, set_whole}
 use Rattle.blocks.proofs.Standing.{block_in, arrays_in}
-use Rattle.direct.specs.Found.{contradicted}
-use Rattle.direct.specs.Answers.{rule_answer}
+use Rattle.direct.specs.Answers.{rule_answer, lists_of}
+use Rattle.direct.specs.declared.answer.RuleAnswer.{RuleAnswer}
+use Rattle.direct.specs.declared.answer.Contradiction.{Contradiction}
+use Rattle.direct.specs.declared.answer.Lists.{Lists}
+use Rattle.marks.specs.CellLists.{cell_list}
+use Rattle.marks.specs.declared.listing.CellList.{CellList}
+use Rattle.groups.proofs.BlockColumns.{block_cells}
 use Rattle.groups.specs.Grouping.{Combinable, grouped}
 use Rattle.groups.specs.declared.Grouped.{Grouped}
 use Rattle.groups.proofs.GroupLaws.{combinable_proper}
@@ -33,15 +40,15 @@ use Rattle.search.specs.Solutions.{solutions}
 use Rattle.search.proofs.ReadingGroups.{groups_read, groups_few}
 use Rattle.enumeration.specs.Enumeration.{safe_cells, mine_cells, unsolvable, enumerated}
 use Rattle.enumeration.specs.Asking.{shown}
-use Rattle.enumeration.specs.Listing.{unmarked_groups}
+use Rattle.enumeration.specs.Listing.{unmarked_groups, ListedBehind}
 use Rattle.enumeration.specs.declared.asking.Shown.{Shown}
 use Rattle.enumeration.proofs.ListedBlock.{safe_listed, mines_listed, first_bits, unshown_unsolved, shown_solved}
 use Rattle.enumeration.proofs.EnumerationLaws.{safe_cells_among, mine_cells_among}
 
--- two arrays with their counts hold what the blocks before `rest` list
-pub record ListedSoFar (bs : List Block) (safe : List ℕ) (safe_count : ℕ) (mines : List ℕ) (mine_count : ℕ) (rest : List Block) : Type 0 where
-  pub safe_so_far : Storing 1024 1 (λ (x : ℕ). x ∷ []) (replicate 1024 0) 0 (joined (map safe_cells bs)) safe safe_count (joined (map safe_cells rest))
-  pub mines_so_far : Storing 1024 1 (λ (x : ℕ). x ∷ []) (replicate 1024 0) 0 (joined (map mine_cells bs)) mines mine_count (joined (map mine_cells rest))
+-- two lists hold what the blocks before `rest` list
+pub record ListedSoFar (bs : List Block) (lists : Lists) (rest : List Block) : Type 0 where
+  pub safe_so_far : Storing 1024 1 (λ (x : ℕ). x ∷ []) (replicate 1024 0) 0 (joined (map safe_cells bs)) lists.safe.cells lists.safe.count (joined (map safe_cells rest))
+  pub mines_so_far : Storing 1024 1 (λ (x : ℕ). x ∷ []) (replicate 1024 0) 0 (joined (map mine_cells bs)) lists.mines.cells lists.mines.count (joined (map mine_cells rest))
   pub solvable_so_far : unsolvable bs ≡ unsolvable rest
 
 module _ {s : BlockSet} (w : Whole s) (combinable : (b : Block) → Memᴰ b (blocks_of s) → Combinable b) where
@@ -69,8 +76,9 @@ module _ {s : BlockSet} (w : Whole s) (combinable : (b : Block) → Memᴰ b (bl
       )
 
   -- nothing is listed yet
-  pub listed_start : ListedSoFar bs (replicate 1024 0) 0 (replicate 1024 0) 0 (drop 0 bs)
-  listed_start = record { safe_so_far = storing_start refl; mines_so_far = storing_start refl; solvable_so_far = refl }
+  pub listed_start : (lists : Lists) → lists ≡ lists_of [] [] → ListedSoFar bs lists (drop 0 bs)
+  unfolding lists_of
+  listed_start lists is = rw is record { safe_so_far = storing_start refl; mines_so_far = storing_start refl; solvable_so_far = refl }
 
   -- ---- the next block, in the arrays
 
@@ -90,6 +98,9 @@ module _ {s : BlockSet} (w : Whole s) (combinable : (b : Block) → Memᴰ b (bl
     pub next_combinable : Combinable next
     next_combinable = rw next_is (combinable (get_or bs i no_block) (mem_at bs i no_block inside))
 
+    pub next_below : all (λ c. ltb c 1024) (cells_from s.cells bounds.first_cell bounds.end_cell) ≡ true
+    next_below = rw (← block_cells s.cells s.slots s.rests bounds) next_combinable.below
+
     -- what it lists, and then the others
     safe_left : joined (map safe_cells (drop i bs)) ≡ safe_cells next ++ joined (map safe_cells (drop (i + 1) bs))
     safe_left = ap (λ (l : List Block). joined (map safe_cells l)) blocks_left
@@ -101,7 +112,7 @@ module _ {s : BlockSet} (w : Whole s) (combinable : (b : Block) → Memᴰ b (bl
     module _ {r : Grouped} (is : r ≡ grouped next) {t : Shown} (told : t ≡ shown next) where
       -- the cells of its groups without a mark
       abbrev unmarked_cells : List ℕ → List ℕ
-      unmarked_cells marks = unmarked_groups r.group_of marks s.cells bounds.first_cell bounds.end_cell 0 r.groups
+      unmarked_cells marks = unmarked_groups r.group_of marks (cells_from s.cells bounds.first_cell bounds.end_cell) 0 r.groups
 
       safe_here : unmarked_cells t.mined ≡ safe_cells next
       safe_here = safe_listed s.cells s.slots s.rests bounds next_combinable r is t told
@@ -116,32 +127,31 @@ module _ {s : BlockSet} (w : Whole s) (combinable : (b : Block) → Memᴰ b (bl
       pub first_marks : get_or t.mined 0 0 + get_or t.unfilled 0 0 ≤ 2
       first_marks = rw told (first_bits next next_combinable)
 
-      module _ {safe : List ℕ} {safe_count : ℕ} {mines : List ℕ} {mine_count : ℕ} (l : ListedSoFar bs safe safe_count mines mine_count (drop i bs)) where
+      module _ {lists : Lists} (l : ListedSoFar bs lists (drop i bs)) where
         -- there is room for its lists
-        pub safe_room : safe_count + length (unmarked_cells t.mined) ≤ 1024
+        pub safe_room : lists.safe.count + length (unmarked_cells t.mined) ≤ 1024
         safe_room = rw safe_here (run_room l.safe_so_far (safe_cells next) (joined (map safe_cells (drop (i + 1) bs))) safe_left 1024 (omega (arith, safe_few)))
 
-        pub mines_room : mine_count + length (unmarked_cells t.unfilled) ≤ 1024
+        pub mines_room : lists.mines.count + length (unmarked_cells t.unfilled) ≤ 1024
         mines_room = rw mines_here (run_room l.mines_so_far (mine_cells next) (joined (map mine_cells (drop (i + 1) bs))) mines_left_lem 1024 (omega (arith, mines_few)))
 
         -- a mark stands, so it has a solution, and is listed
         pub block_listed : (get_or t.mined 0 0 + get_or t.unfilled 0 0 ≡ 0 → ⊥)
-            → (safe' : List ℕ) → safe' ≡ sets safe safe_count (unmarked_cells t.mined) → (safe_count' : ℕ) → safe_count' ≡ safe_count + length (unmarked_cells t.mined)
-            → (mines' : List ℕ) → mines' ≡ sets mines mine_count (unmarked_cells t.unfilled) → (mine_count' : ℕ) → mine_count' ≡ mine_count + length (unmarked_cells t.unfilled)
-            → ListedSoFar bs safe' safe_count' mines' mine_count' (drop (i + 1) bs)
-        block_listed marks safe' stored safe_count' counted mines' stored' mine_count' counted' =
+            → (safe mines : CellList) → ListedBehind (unmarked_cells t.mined) lists.safe safe → ListedBehind (unmarked_cells t.unfilled) lists.mines mines
+            → ListedSoFar bs (record { safe = safe; mines = mines }) (drop (i + 1) bs)
+        block_listed marks safe mines stored stored' =
             let solved : empty (solutions next) ≡ false = shown_solved next next_combinable (rw told at marks) in
             record {
               safe_so_far = run_next l.safe_so_far (safe_cells next) (joined (map safe_cells (drop (i + 1) bs))) safe_left
-                  safe' (rw safe_here at stored) safe_count' (rw safe_here at counted);
+                  safe.cells (rw safe_here at stored.cells) safe.count (rw safe_here at stored.count);
               mines_so_far = run_next l.mines_so_far (mine_cells next) (joined (map mine_cells (drop (i + 1) bs))) mines_left_lem
-                  mines' (rw mines_here at stored') mine_count' (rw mines_here at counted');
+                  mines.cells (rw mines_here at stored'.cells) mines.count (rw mines_here at stored'.count);
               solvable_so_far = l.solvable_so_far ∙ ap unsolvable blocks_left ∙ rw solved;
             }
 
         -- no mark stands, so it has none, which is the contradiction
-        pub unsolved_answer : get_or t.mined 0 0 + get_or t.unfilled 0 0 ≡ 0 → rule_answer contradicted ≡ rule_answer (enumerated bs)
-        unfolding enumerated
+        pub unsolved_answer : get_or t.mined 0 0 + get_or t.unfilled 0 0 ≡ 0 → Err (record {}) ≡ rule_answer (enumerated bs)
+        unfolding rule_answer enumerated
         unsolved_answer none =
             let unsolved : empty (solutions next) ≡ true = unshown_unsolved next next_combinable (rw told at none) in
             let found : unsolvable bs ≡ true = l.solvable_so_far ∙ ap unsolvable blocks_left ∙ rw unsolved in
@@ -149,27 +159,24 @@ module _ {s : BlockSet} (w : Whole s) (combinable : (b : Block) → Memᴰ b (bl
 
   -- ---- no block is left
 
-  pub all_listed : {safe : List ℕ} {safe_count : ℕ} {mines : List ℕ} {mine_count : ℕ} (i : ℕ) → ListedSoFar bs safe safe_count mines mine_count (drop i bs)
-      → length bs ≤ i → (left : BlockSet) → left ≡ block_set []
-      → record { contradiction = false; safe = record { cells = safe; count = safe_count }; mines = record { cells = mines; count = mine_count }; left = left } ≡ rule_answer (enumerated bs)
-  unfolding rule_answer enumerated
-  all_listed i l h left is =
+  -- a list that was stored whole
+  whole_list : (l : CellList) (all : List ℕ) → length all ≤ 1024 → (l.count ≡ 0 + length all) × (l.cells ≡ sets (replicate 1024 0) 0 all) → l ≡ cell_list all
+  whole_list l all few (count, cells) =
+      ap (λ (x : List ℕ). record { cells = x; count = l.count }) (cells ∙ filled_sets 1024 0 all few)
+      ∙ ap (λ (n : ℕ). record { cells = pad 1024 0 all; count = n }) (count ∙ zero-add (length all))
+
+  pub all_listed : {lists : Lists} (i : ℕ) → ListedSoFar bs lists (drop i bs) → length bs ≤ i → (left : BlockSet) → left ≡ block_set []
+      → Ok (record { lists = lists; left = left }) ≡ rule_answer (enumerated bs)
+  unfolding rule_answer lists_of enumerated
+  all_listed {lists} i l h left is =
       let none = drop_none bs i h in
       let solvable : unsolvable bs ≡ false = l.solvable_so_far ∙ ap unsolvable none in
-      let safe_end = run_end l.safe_so_far (ap (λ (r : List Block). joined (map safe_cells r)) none) in
-      let mines_end = run_end l.mines_so_far (ap (λ (r : List Block). joined (map mine_cells r)) none) in
-      rw (
-        is,
-        safe_end.0,
-        safe_end.1,
-        mines_end.0,
-        mines_end.1,
-        filled_sets 1024 0 (joined (map safe_cells bs)) safe_few,
-        filled_sets 1024 0 (joined (map mine_cells bs)) mines_few,
-        zero-add (length (joined (map safe_cells bs))),
-        zero-add (length (joined (map mine_cells bs))),
-        solvable,
-      )
+      let safe_is = whole_list lists.safe (joined (map safe_cells bs)) safe_few (run_end l.safe_so_far (ap (λ (r : List Block). joined (map safe_cells r)) none)) in
+      let mines_is = whole_list lists.mines (joined (map mine_cells bs)) mines_few (run_end l.mines_so_far (ap (λ (r : List Block). joined (map mine_cells r)) none)) in
+      rw (solvable, is) (ap (answer lists.safe) mines_is ∙ ap (λ (s : CellList). answer s (cell_list (joined (map mine_cells bs)))) safe_is)
+    where
+      answer : CellList → CellList → Result RuleAnswer Contradiction
+      answer safe mines = Ok (record { lists = record { safe = safe; mines = mines }; left = block_set [] })
 
   -- the set of no blocks holds these and nothing else
   pub none_whole : (left : BlockSet) → left ≡ block_set [] → Whole left

@@ -12,20 +12,19 @@ use Rattle.lists.specs.Lists.{keep, joined}
 use Rattle.lists.proofs.Members.{range_more, range_none}
 use Rattle.lists.proofs.Storing.{Storing, storing_pass}
 use Rattle.lists.proofs.StoredAndKept.{keep_next, keep_pass, run_room, run_next, run_end}
-use Rattle.marks.specs.Marked.{cells_with}
-use Rattle.enumeration.specs.Listing.{unmarked_groups}
+use Rattle.enumeration.specs.Listing.{cells_in_group, unmarked_groups}
 
-module _ (group_of marks cells : List ℕ) (first end groups : ℕ) where
+module _ (group_of marks cells : List ℕ) (groups : ℕ) where
   -- the cells of a group
   abbrev cells_of : ℕ → List ℕ
-  cells_of g = cells_with group_of g cells first end
+  cells_of = cells_in_group group_of cells
 
   abbrev unmarked : ℕ → Bool
   unmarked g = not (eqb (get_or marks g 0) 1)
 
   -- what is listed of the groups from g on
   abbrev from : ℕ → List ℕ
-  from g = unmarked_groups group_of marks cells first end g groups
+  from g = unmarked_groups group_of marks cells g groups
 
   module _ (g : ℕ) (h : g < groups) where
     next_listed : (get_or marks g 0 ≡ 1 → ⊥) → from g ≡ cells_of g ++ from (g + 1)

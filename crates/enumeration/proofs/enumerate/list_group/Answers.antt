@@ -1,59 +1,20 @@
--- `solutions::enumerate::list_group` meets its contract. The loop's invariant: the cells from place i on that are of the group, stored from place k on, give
--- what all of them give from `at` on. The measure is what is left. Rests on the laws of `Storing`. Assumes nothing.
-use Prim.Native.Nat.{ℕ, ◌-◌, ◌<◌}
-use mathlib.Core.Path.{refl, sym, ap, ◌∙◌}
-use mathlib.Core.List.{[], ◌∷◌}
+-- `enumeration::enumerate::list_group` meets its contract. The loop's invariant: the cells of the group from a place on, stored behind those already listed, give what
+-- all of them give. Rests on the laws of `Storing`. Assumes nothing.
+use Prim.Native.Nat.{ℕ, ◌+◌, ◌<◌}
+use mathlib.Core.Path.{◌≡◌, refl, ap}
+use mathlib.Core.Bool.{Bool}
+use mathlib.Core.List.{◌∷◌}
 use mathlib.Core.Logic.{⊎_elim}
 use native.Mathlib.Omega.{arith}
-use lib.ListN.{set}
-use borrow.Author.Tests.{eq-eqb, ne_eqb}
-use Rattle.lists.proofs.Storing.{Storing, storing_start, storing_room, storing_next, storing_pass, single_store}
-use Rattle.marks.specs.Marked.{cells_with}
-use Rattle.marks.proofs.ByMarks.{listed_kept, listed_passed, listed_none}
-use Rattle.lists.proofs.StoredAndKept.{run_end}
+use lib.Dec.{eqb}
+use lib.ListN.{get_or, drop}
 use borrow.Author.Rules.{rules}
+use borrow.Author.Tests.{eq-eqb, ne_eqb}
+use Rattle.lists.proofs.Arrays.{drop_more, drop_none}
+use Rattle.lists.proofs.Storing.{storing_start, storing_room, storing_next, storing_pass, single_store}
+use Rattle.lists.proofs.StoredAndKept.{keep_next, keep_pass, run_end}
+use Rattle.enumeration.specs.Listing.{cells_in_group}
 use Rattle.enumeration.proofs.enumerate.list_group.Goals as goal
-use Rattle.enumeration.proofs.enumerate.list_group.Goals.{Then-group_of-wide, else-group_of-wide, then-group_of-wide}
 
-pub loop-i-init : goal.loop-i-init
-loop-i-init c = storing_start c.requires.out_len
-
-pub offset_bounds-group_of-wide : goal.offset_bounds-group_of-wide
-offset_bounds-group_of-wide c = rw c.wide.ensures (omega (arith, c.requires.cells.below c.loop-i.i c.loop-i-test.true))
-
-pub bounds-group_of-wide : goal.bounds-group_of-wide
-bounds-group_of-wide c = rw c.wide.ensures (c.requires.cells.below c.loop-i.i c.loop-i-test.true)
-
--- there is room for a cell of the group
-room : (c : Then-group_of-wide) → c.loop-i.k < 1024
-room c =
-    let loop = c.loop-i in
-    let wide = c.wide in
-    storing_room loop.invariant (listed_kept c.args.group_of.now c.args.group c.args.cells.now loop.i c.args.end wide.result wide.ensures c.loop-i-test.true (eq-eqb _ _ c.if-group_of-wide.true)) 1024 c.requires.end_bound
-
-pub offset_bounds-out-k : goal.offset_bounds-out-k
-offset_bounds-out-k c = omega (arith, room c)
-
-pub bounds-out-k : goal.bounds-out-k
-bounds-out-k c = room (goal.at.bounds-out-k c).Then-group_of-wide
-
-pub overflow_add-k : goal.overflow_add-k
-overflow_add-k c = omega (arith, room (goal.at.overflow_add-k c).Then-group_of-wide)
-
-pub loop-i-preserved : goal.loop-i-preserved
-loop-i-preserved c =
-    let loop = c.loop-i in
-    let test = c.loop-i-test.true in
-    let wide = c.wide in
-    elim c.if-group_of-wide.branch [
-      | then-group_of-wide w ↦ rw (w.out-is, w.k-is)
-          (storing_next loop.invariant (listed_kept c.args.group_of.now c.args.group c.args.cells.now loop.i c.args.end wide.result wide.ensures test (eq-eqb _ _ w.if-group_of-wide.true)) refl _
-          (ap (λ (y : ℕ). set loop.out loop.k y) (sym wide.ensures) ∙ single_store loop.out loop.k wide.result))
-      | else-group_of-wide w ↦ rw (w.out-is, w.k-is) (storing_pass loop.invariant (listed_passed c.args.group_of.now c.args.group c.args.cells.now loop.i c.args.end wide.result wide.ensures test (ne_eqb _ _ w.if-group_of-wide.false)))
-    ]
-
-pub returns : goal.returns
-returns c =
-    let loop = c.loop-i in
-    let both = run_end loop.invariant (listed_none c.args.group_of.now c.args.group c.args.cells.now loop.i c.args.end c.loop-i-test.false) in
-    record { value = both.0; out_after = both.1 }
+pub loop-cell-init : goal.loop-cell-init
+loop-cell-init c = storing_start (search rules)

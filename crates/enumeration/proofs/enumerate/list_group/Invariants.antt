@@ -1,16 +1,11 @@
-use Prim.Native.Nat.{ℕ, ◌-◌, ◌<◌}
-use mathlib.Core.Path.{refl, sym, ap, ◌∙◌}
 use mathlib.Core.List.{[], ◌∷◌}
-use mathlib.Core.Logic.{⊎_elim}
-use native.Mathlib.Omega.{arith}
-use lib.ListN.{set}
-use borrow.Author.Tests.{eq-eqb, ne_eqb}
-use Rattle.lists.proofs.Storing.{Storing, storing_start, storing_room, storing_next, storing_pass, single_store}
-use Rattle.marks.specs.Marked.{cells_with}
-use Rattle.marks.proofs.ByMarks.{listed_kept, listed_passed, listed_none}
-use Rattle.lists.proofs.StoredAndKept.{run_end}
-use borrow.Author.Rules.{rules}
+use Prim.Native.Nat.{ℕ}
+use lib.ListN.{drop}
+use Rattle.lists.proofs.Storing.{Storing}
+use Rattle.enumeration.specs.Listing.{cells_in_group}
 use Rattle.enumeration.proofs.enumerate.list_group.Given as goal
 
-abbrev pub invariant-loop-i : goal.invariant-loop-i
-invariant-loop-i l = Storing 1024 1 (λ (x : ℕ). x ∷ []) l.initial.out l.at (cells_with l.group_of l.group l.cells l.first l.end) l.out l.k (cells_with l.group_of l.group l.cells l.i l.end)
+abbrev pub invariant-loop-cell : goal.invariant-loop-cell
+invariant-loop-cell l =
+    Storing 1024 1 (λ (x : ℕ). x ∷ []) l.initial.list.cells l.initial.list.count (cells_in_group l.group_of l.cells l.group) l.list.cells l.list.count
+    (cells_in_group l.group_of (drop l.cell-index l.cells) l.group)
