@@ -1,12 +1,11 @@
 // The counts of mines that blocks may have, joined: which numbers a count of each can add up to. A set of counts is kept in an array of bytes, 1 for a number
 // of the set and 0 for any other; the sets of the blocks stand one after another in one array, each with a place more than its block has cells.
-ghost use Rattle.std.specs.Prelude.{◌≡◌, true, ◌&&◌, [], ◌∷◌, ℕ, ◌+◌, ◌-◌, ◌≤◌, leb, eqb, length, get_or};
+ghost use Rattle.std.specs.Prelude.{◌≡◌, true, ◌&&◌, [], ◌∷◌, ℕ, ◌+◌, ◌-◌, ◌≤◌, ◌<◌, leb, eqb, length, get_or};
 ghost use Rattle.counting.specs.Counting.{Marked};
 ghost use Rattle.totals.specs.Totals.{up_to};
-ghost use Rattle.totals.specs.Joining.{holds, counts_but, EndsInOrder, SumsAre, Joined, raised};
+ghost use Rattle.totals.specs.Joining.{holds, counts_at, counts_but, EndsInOrder, SumsAre, Joined, raised};
 
-use blocks::begin_at;
-use grid::window::wide;
+use blocks::BlockSet;
 
 // One number more: what a set has, raised by t, goes to another, up to `rest`.
 fn add_count(before: &[u8; 1025], t: usize, rest: usize, after: &mut [u8; 1025])
@@ -44,24 +43,31 @@ fn counts_up_to(k: usize) -> [u8; 1025]
     counts
 }
 
+// The counts of block j.
+pub fn counts_of<'a>(set: &BlockSet, counts: &'a [u8; 2048], j: usize) -> &'a [u8]
+    requires { EndsInOrder set.now.cell_ends set.now.blocks × (j < set.now.blocks) }
+    ensures held { (t : ℕ) → holds result.now t ≡ counts_at counts.now set.now.cell_ends j t }
+    ensures few { length result.now ≤ 1025 }
+{
+    let bounds = set.bounds_at(j);
+    &counts[bounds.first_cell + j..bounds.end_cell + j + 1]
+}
+
 // The sums of what so many free cells and the blocks but one can hold, up to `rest`.
 pub fn sums_but(
+    set: &BlockSet,
     counts: &[u8; 2048],
-    ends: &[u16; 1024],
-    blocks: usize,
     but: usize,
     free: usize,
     rest: usize,
 ) -> [u8; 1025]
-    requires { EndsInOrder ends.now blocks × (free ≤ 1024) × (rest ≤ 1024) }
-    ensures { SumsAre rest (up_to free ∷ counts_but counts.now ends.now but blocks) result }
+    requires { EndsInOrder set.now.cell_ends set.now.blocks × (free ≤ 1024) × (rest ≤ 1024) }
+    ensures { SumsAre rest (up_to free ∷ counts_but counts.now set.now.cell_ends but set.now.blocks) result }
 {
     let mut sums = counts_up_to(free);
-    for j in 0..blocks {
+    for j in 0..set.blocks {
         if j != but {
-            let first = begin_at(ends, j) + j;
-            let end = wide(ends[j]) + j + 1;
-            let more = join(&counts[first..end], rest, sums);
+            let more = join(counts_of(set, counts, j), rest, sums);
             sums = more;
         }
     }
