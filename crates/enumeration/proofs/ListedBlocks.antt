@@ -25,7 +25,7 @@ use Rattle.blocks.specs.declared.Bounds.{Bounds}
 use Rattle.blocks.specs.declared.BlockSet.{BlockSet}
 use Rattle.blocks.proofs.Reading.{no_block}
 use Rattle.blocks.proofs.Behind.{small_first, set_whole}
-use Rattle.blocks.proofs.Standing.{block_in, arrays_in}
+use Rattle.blocks.proofs.Standing.{block_in, order_in, arrays_in}
 use Rattle.direct.specs.Answers.{rule_answer, lists_of}
 use Rattle.direct.specs.declared.answer.RuleAnswer.{RuleAnswer}
 use Rattle.direct.specs.declared.answer.Contradiction.{Contradiction}
@@ -94,6 +94,9 @@ module _ {s : BlockSet} (w : Whole s) (combinable : (b : Block) → Memᴰ b (bl
 
     pub next_arrays : Arrays s.cells s.slots s.rests bounds
     next_arrays = rw at (arrays_in s w i inside)
+
+    pub next_order : bounds.first_cell ≤ bounds.end_cell
+    next_order = rw at (order_in s w i inside)
 
     pub next_combinable : Combinable next
     next_combinable = rw next_is (combinable (get_or bs i no_block) (mem_at bs i no_block inside))

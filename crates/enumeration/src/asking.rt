@@ -59,14 +59,7 @@ impl Shown {
             self.old self.new }
     {
         let mut values = settled.values;
-        let left = spend(
-            grouped,
-            order,
-            settled.begun.count,
-            unmet,
-            &mut values,
-            1,
-        );
+        let left = spend(grouped, order, settled.begun.count, unmet, &mut values, 1);
         if left == 0 {
             self.note(&values, grouped);
         }

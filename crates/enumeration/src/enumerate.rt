@@ -36,7 +36,7 @@ fn list_group(cells: &[u16], group_of: &[u16; 1024], group: u16, list: &mut Cell
 // The cells of the groups that are not marked, group after group.
 fn list_groups(cells: &[u16], grouped: &Grouped, marks: &[u8; 1024], list: &mut CellList)
     requires below { all (λ c. ltb c 1024) cells.now ≡ true }
-    requires groups_bound { grouped.now.groups ≤ 1024 }
+    requires groups_bound { (grouped.now.groups ≤ 1024) × (length list.old.cells ≡ 1024) }
     requires room { list.old.count + length (unmarked_groups grouped.now.group_of marks.now cells.now 0 grouped.now.groups) ≤ 1024 }
     ensures { ListedBehind (unmarked_groups grouped.now.group_of marks.now cells.now 0 grouped.now.groups) list.old list.new }
 {

@@ -1,11 +1,8 @@
 -- `enumeration::asking::shown_by` meets its contract. Groups are settled, one solution is asked for, and then each other group: what is marked some solution shows, and of
 -- all groups all that some solution shows is marked. Rests on what `settle`, `ask_any` and `ask_groups` ensure. Assumes nothing.
-use mathlib.Core.Path.{◌≡◌, sym, ap, ◌∙◌}
-use mathlib.Core.Bool.{true}
+use mathlib.Core.Path.{sym, ap, ◌∙◌}
 use native.Mathlib.Omega.{arith}
-use lib.Dec.{ltb}
 use lib.ListN.{take}
-use Rattle.lists.specs.Lists.{all}
 use Rattle.blocks.specs.Blocks.{Block}
 use Rattle.blocks.specs.Places.{block_between}
 use Rattle.groups.specs.declared.Grouped.{Grouped}

@@ -1,14 +1,12 @@
 -- `enumeration::enumerate::list_groups` meets its contract. The loop's invariant: the cells of the groups from g on that are not marked, stored behind those already
 -- listed, give what those of all groups give. Rests on UnmarkedGroups. Assumes nothing.
-use mathlib.Core.Logic.{⊎_elim}
-use borrow.Author.Rules.{rules}
 use Rattle.lists.proofs.Storing.{storing_start}
 use Rattle.enumeration.proofs.UnmarkedGroups.{group_room, group_stored, group_passed, groups_stored}
 use Rattle.enumeration.proofs.enumerate.list_groups.Goals as goal
 use Rattle.enumeration.proofs.enumerate.list_groups.Goals.{else-marks-g-ne1, then-marks-g-ne1}
 
 pub loop-g-init : goal.loop-g-init
-loop-g-init c = storing_start (search rules)
+loop-g-init c = storing_start c.requires.groups_bound.1
 
 pub list_group-requires-clause-room : goal.list_group-requires-clause-room
 list_group-requires-clause-room c =

@@ -1,9 +1,7 @@
 -- `enumeration::asking::Shown::ask_group` meets its contract: each of the two questions is asked or known, which tells what the marks show of the group. Rests on the
 -- laws of questions. Assumes nothing.
-use Prim.Native.Nat.{ℕ, ◌-◌, ◌≤◌, ◌<◌}
+use Prim.Native.Nat.{ℕ, ◌≤◌}
 use mathlib.Core.Path.{◌≡◌, refl, ◌∙◌}
-use mathlib.Core.List.{List}
-use mathlib.Core.Logic.{⊎_elim}
 use native.Mathlib.Omega.{arith}
 use lib.ListN.{get_or}
 use Rattle.search.specs.Searching.{tree_of_values}

@@ -1,13 +1,11 @@
 -- `enumeration::asking::Shown::ask_groups` meets its contract. The loop's invariant: of a block whose groups these are, only what some solution shows is marked, and the
 -- groups before g are told. Rests on the laws of `Telling`. Assumes nothing.
 use Prim.Native.Nat.{◌<◌}
-use mathlib.Core.Path.{◌≡◌, refl, sym, ◌∙◌}
-use mathlib.Core.Logic.{⊎_elim}
+use mathlib.Core.Path.{refl, sym, ◌∙◌}
 use native.Mathlib.Omega.{arith}
-use lib.ListN.{take}
 use Rattle.orders.specs.WholeOrders.{in_order}
 use Rattle.enumeration.specs.Asking.{OverGroups}
-use Rattle.enumeration.proofs.ShownGroups.{over_few, over_some, over_ordered, Telling, telling_start, telling_settled, telling_known, telling_asked}
+use Rattle.enumeration.proofs.ShownGroups.{over_few, over_some, over_ordered, telling_start, telling_settled, telling_known, telling_asked}
 use Rattle.enumeration.proofs.asking.Shown.ask_groups.Goals as goal
 use Rattle.enumeration.proofs.asking.Shown.ask_groups.Goals.{In-loop-g, Start, else-not-contains, then-not-contains+else-self-g-lt2, then-not-contains+then-self-g-lt2}
 

@@ -1,7 +1,6 @@
 -- `enumeration::asking::Shown::note` meets its contract. The loop's invariant: of the groups before g those that the solution shows mined, and those that it shows
 -- unfilled, are marked. Rests on the laws of `Noted`. Assumes nothing.
 use mathlib.Core.Path.{◌≡◌, ap}
-use mathlib.Core.Logic.{⊎_elim}
 use Prim.Native.Nat.{◌<◌}
 use native.Mathlib.Omega.{arith}
 use borrow.Author.Rules.{rules}
