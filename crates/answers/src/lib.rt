@@ -2,8 +2,9 @@
 // two names, of a plain board and of one that shows its mine total.
 #![tactic(auto)]
 
+ghost use Rattle.std.specs.Prelude.{◌≡◌, find};
 ghost use Rattle.text.specs.Text.{Written, Wrote};
-ghost use Rattle.answers.specs.Calls.{call_line};
+ghost use Rattle.answers.specs.Calls.{call_name, names, call_named, call_line};
 
 use board_lines::verdicts::verdict_line;
 use board_lines::{bbbv_line, pattern_line};
@@ -26,6 +27,55 @@ pub enum Call {
     Verdict,
     Total,
     Table,
+}
+
+// All of them, in the order above.
+const CALLS: [Call; 9] = [
+    Call::Frontier,
+    Call::Direct,
+    Call::Minus,
+    Call::Pattern,
+    Call::Bbbv,
+    Call::Enumerate,
+    Call::Verdict,
+    Call::Total,
+    Call::Table,
+];
+
+impl Call {
+    // The name of a call, by which it is asked for.
+    pub fn name(self) -> &'static str
+        ensures { result.now ≡ call_name self }
+    {
+        match self {
+            Call::Frontier => "frontier",
+            Call::Direct => "direct",
+            Call::Minus => "minus",
+            Call::Pattern => "pattern",
+            Call::Bbbv => "bbbv",
+            Call::Enumerate => "enumerate",
+            Call::Verdict => "verdict",
+            Call::Total => "total",
+            Call::Table => "table",
+        }
+    }
+
+    // The call that a word names.
+    pub fn named(word: &[u8]) -> Option<Call>
+        ensures { result ≡ call_named word.now }
+    {
+        first_named(&CALLS, word)
+    }
+}
+
+// The first of some calls that a word names.
+fn first_named(calls: &[Call], word: &[u8]) -> Option<Call>
+    ensures { result ≡ find (names word.now) calls.now }
+{
+    calls
+        .iter()
+        .copied()
+        .find(|call| call.name().as_bytes() == word)
 }
 
 // What a call answers to a line, put behind what is written.
