@@ -2,46 +2,51 @@
 // between two equal ones, whose lines must be equal.
 #![tactic(auto)]
 
+use inputs::with_file;
 use reading::judge_records;
-use std::fs::File;
-use telling::tell_failure;
+
+// The files, in the order in which they are judged.
+const NAMES: [&str; 20] = [
+    "empty",
+    "one_byte",
+    "unknown_mark",
+    "unknown_mark_alone",
+    "unknown_mark_between",
+    "cut_after_2",
+    "cut_after_3",
+    "cut_after_4",
+    "cut_after_5",
+    "cut_after_6",
+    "cut_in_cells",
+    "refused_size",
+    "refused_largest",
+    "refused_cell",
+    "refused_start",
+    "refused_number",
+    "refused_mine",
+    "refused_open_start",
+    "total_mark",
+    "total_mark_refused",
+];
 
 // Prints the file's name and the answers to its records.
 fn judge_file(rt: &HostRuntime, name: &str) {
     let mut input = [0u8; 65536];
     let mut out = [0u8; 65536];
     let _ = println!(rt; "{name}:");
-    match File::open(rt, name) {
-        Ok(mut file) => judge_records(
-            &mut file,
+    with_file(rt, name, |file| {
+        judge_records(
+            file,
             &mut rt.stdout(),
             &mut rt.stderr(),
             &mut input,
             &mut out,
-        ),
-        Err(error) => tell_failure(&mut rt.stderr(), name.as_bytes(), error),
-    }
+        )
+    });
 }
 
 fn main(rt: HostRuntime) {
-    judge_file(&rt, "empty");
-    judge_file(&rt, "one_byte");
-    judge_file(&rt, "unknown_mark");
-    judge_file(&rt, "unknown_mark_alone");
-    judge_file(&rt, "unknown_mark_between");
-    judge_file(&rt, "cut_after_2");
-    judge_file(&rt, "cut_after_3");
-    judge_file(&rt, "cut_after_4");
-    judge_file(&rt, "cut_after_5");
-    judge_file(&rt, "cut_after_6");
-    judge_file(&rt, "cut_in_cells");
-    judge_file(&rt, "refused_size");
-    judge_file(&rt, "refused_largest");
-    judge_file(&rt, "refused_cell");
-    judge_file(&rt, "refused_start");
-    judge_file(&rt, "refused_number");
-    judge_file(&rt, "refused_mine");
-    judge_file(&rt, "refused_open_start");
-    judge_file(&rt, "total_mark");
-    judge_file(&rt, "total_mark_refused");
+    for name in NAMES {
+        judge_file(&rt, name);
+    }
 }

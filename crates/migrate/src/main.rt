@@ -2,20 +2,14 @@
 #![tactic(auto)]
 
 use migrating::migrate_stored;
-use std::io::{IsTerminal, Write};
-
-// At a terminal nothing is to be migrated yet: says what the program waits for.
-fn tell_usage(rt: &HostRuntime) {
-    if rt.stdin().is_terminal() {
-        let _ = rt.stderr().write_all(
-            b"usage: migrate < STORED > MIGRATED\nStored board records are read from standard input and written to standard output, where a start of 255,255 has become the first 0.\n",
-        );
-    }
-}
+use telling::tell_usage;
 
 fn main(rt: HostRuntime) {
     let mut input = [0u8; 65536];
-    tell_usage(&rt);
+    tell_usage(
+        &rt,
+        "usage: migrate < STORED > MIGRATED\nStored board records are read from standard input and written to standard output, where a start of 255,255 has become the first 0.\n",
+    );
     migrate_stored(
         &mut rt.stdin(),
         &mut rt.stdout(),

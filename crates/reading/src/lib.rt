@@ -3,131 +3,60 @@
 // record with its place, and a summary where all that could be judged was judged and written.
 #![tactic(auto)]
 
-ghost use Rattle.std.specs.Prelude.{◌≡◌, ◌+◌, ◌≤◌, IfSome, length};
+ghost use Rattle.std.specs.Prelude.{◌≡◌, ◌≤◌, length};
+ghost use Rattle.inputs.specs.Parts.{TakesAtMost};
 
+use inputs::for_each_part;
 use refusals::Refusal;
-use run::{Run, RunState, Tally, answer_part, goes_on, keep_rest, new_run, run_after};
+use run::{Run, RunState, Tally, answer_part, goes_on, new_run, run_after};
+use std::io;
 use std::io::{Read, Write};
-use telling::{tell, tell_failure, tell_number};
 
-// A run between two reads: how many bytes are held at the front of the input, how far the run has come, and whether a read or a write has failed.
-#[derive(Clone, Copy)]
-struct Turn {
-    held: usize,
-    run: Run,
-    failed: bool,
-}
-
-// Reads more of the input behind the bytes held: how many bytes came, 0 at the input's end, or nothing where the read failed.
-fn read_more<R: Read, E: Write>(
-    reader: &mut R,
-    messages: &mut E,
-    input: &mut [u8],
-    held: usize,
-) -> Option<usize>
-    requires { held ≤ length input.old }
-    ensures { IfSome result (λ came. held + came ≤ length input.new) }
-{
-    match reader.read(&mut input[held..]) {
-        Ok(came) => Some(came),
-        Err(error) => {
-            tell_failure(messages, b"judge: reading the input", error);
-            None
-        }
-    }
-}
-
-// Writes the first bytes of a buffer. Did all of them go out?
-fn write_out<W: Write, E: Write>(writer: &mut W, messages: &mut E, out: &[u8], len: usize) -> bool
-    requires { len ≤ length out.now }
-{
-    match writer.write_all(&out[..len]) {
-        Ok(()) => true,
-        Err(error) => {
-            tell_failure(messages, b"judge: writing standard output", error);
-            false
-        }
-    }
-}
-
-// Reads, answers and writes once. What was read before a read that failed is answered all the same.
-fn take_turn<R: Read, W: Write, E: Write>(
-    reader: &mut R,
+// Answers a part of the input, and writes the lines: how many of its bytes are read, where the run goes on.
+fn judge_part<W: Write>(
     writer: &mut W,
-    messages: &mut E,
-    input: &mut [u8],
     out: &mut [u8],
-    turn: Turn,
-) -> Turn
-    requires { turn.held ≤ length input.old }
-    ensures { result.held ≤ length input.new }
+    run: &mut Run,
+    part: &[u8],
+    ended: bool,
+) -> io::Result<Option<usize>>
+    ensures { TakesAtMost part.now result }
 {
-    let held = turn.held;
-    let run = turn.run;
-    let got = read_more(reader, messages, input, held);
-    let end = held + got.unwrap_or(0);
-    let part = answer_part(&input[..end], got == Some(0), run.next, out);
-    let written = write_out(writer, messages, out, part.len);
-    Turn {
-        held: keep_rest(input, part.read, end),
-        run: run_after(run, part),
-        failed: if written { got.is_none() } else { true },
-    }
+    let answered = answer_part(part, ended, run.next, out);
+    writer.write_all(&out[..answered.len])?;
+    *run = run_after(*run, answered);
+    Ok(goes_on(*run).then_some(answered.read))
 }
 
 // At which byte a damaged record begins, and that the rest was not judged.
 fn tell_damage<E: Write>(messages: &mut E, refusal: Refusal, at: usize) {
-    tell(messages, b"judge: stopped at byte ");
-    tell_number(messages, at);
-    if refusal == Refusal::Short {
-        tell(
-            messages,
-            b" of the input: it ends inside the record that begins there, which was not judged\n",
-        );
-    } else {
-        tell(
-            messages,
-            b" of the input: no record begins there; what follows was not judged\n",
-        );
-    }
+    let what = match refusal {
+        Refusal::Short => "it ends inside the record that begins there, which was not judged",
+        _ => "no record begins there; what follows was not judged",
+    };
+    let _ = writeln!(messages, "judge: stopped at byte {at} of the input: {what}");
 }
 
 // `judge: 1500 boards: 980 yes, 500 no, 20 refused`.
 fn tell_summary<E: Write>(messages: &mut E, tally: Tally, boards: usize) {
-    tell(messages, b"judge: ");
-    tell_number(messages, boards);
-    if boards == 1 {
-        tell(messages, b" board: ");
-    } else {
-        tell(messages, b" boards: ");
-    }
-    tell_number(messages, tally.yes);
-    tell(messages, b" yes, ");
-    tell_number(messages, tally.no);
-    tell(messages, b" no, ");
-    tell_number(messages, tally.refused);
-    tell(messages, b" refused\n");
+    let Tally { yes, no, refused } = tally;
+    let noun = if boards == 1 { "board" } else { "boards" };
+    let _ = writeln!(
+        messages,
+        "judge: {boards} {noun}: {yes} yes, {no} no, {refused} refused"
+    );
 }
 
-// The number of the line that would be next tells how many boards there were: line 0 is the header.
-fn boards_of(next: usize) -> usize {
-    if next == 0 { 0 } else { next - 1 }
-}
-
-// How a run ended that has come to its end.
+// How a run ended that has come to its end. The number of the line that would be next tells how many boards there were: line 0 is the header.
 fn tell_end<E: Write>(messages: &mut E, run: Run) {
-    let state = run.state;
-    let tally = run.tally;
-    match state {
-        RunState::Stopped(refusal) => tell_damage(messages, refusal, run.read),
-        _ => {}
+    if let RunState::Stopped(refusal) = run.state {
+        tell_damage(messages, refusal, run.read);
     }
-    tell_summary(messages, tally, boards_of(run.next));
+    tell_summary(messages, run.tally, run.next.saturating_sub(1));
 }
 
 // Judges the records that a reader gives, and writes the lines to a writer. It answers nothing, and no contract can say what is read and written. The input has room for
-// the longest record and a byte more, so that a read that brings nothing is the input's end; the loop ends, as every function does, after more reads than any input has
-// bytes.
+// the longest record and a byte more, so that a read that brings nothing is the input's end.
 pub fn judge_records<R: Read, W: Write, E: Write>(
     reader: &mut R,
     writer: &mut W,
@@ -138,22 +67,11 @@ pub fn judge_records<R: Read, W: Write, E: Write>(
     requires { (65032 ≤ length input.old) × (128 ≤ length out.old) }
     ensures { (length input.new ≡ length input.old) × (length out.new ≡ length out.old) }
 {
-    let mut turn = Turn {
-        held: 0,
-        run: new_run(),
-        failed: false,
-    };
-    let mut reads: u64 = 0;
-    while reads < 0xffff_ffff_ffff_ffff {
-        turn = take_turn(reader, writer, messages, input, out, turn);
-        if turn.failed {
-            return;
-        }
-        let run = turn.run;
-        if !goes_on(run) {
-            tell_end(messages, run);
-            return;
-        }
-        reads += 1;
+    let mut run = new_run();
+    let judged = for_each_part(reader, messages, "judge", input, |part, ended| {
+        judge_part(writer, out, &mut run, part, ended)
+    });
+    if judged.is_ok() {
+        tell_end(messages, run);
     }
 }

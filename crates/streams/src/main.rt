@@ -4,9 +4,8 @@
 
 ghost use Rattle.std.specs.Prelude.{◌≤◌};
 
+use inputs::with_file;
 use reading::judge_records;
-use std::fs::File;
-use telling::tell_failure;
 
 // Judges the file with a buffer that holds so many bytes of the input.
 fn judge_by(rt: &HostRuntime, size: usize)
@@ -15,16 +14,15 @@ fn judge_by(rt: &HostRuntime, size: usize)
     let mut input = [0u8; 65536];
     let mut out = [0u8; 128];
     let _ = println!(rt; "input of {size} bytes at a time:");
-    match File::open(rt, "seventy_thousand") {
-        Ok(mut file) => judge_records(
-            &mut file,
+    with_file(rt, "seventy_thousand", |file| {
+        judge_records(
+            file,
             &mut rt.stdout(),
             &mut rt.stderr(),
             &mut input[..size],
             &mut out,
-        ),
-        Err(error) => tell_failure(&mut rt.stderr(), b"seventy_thousand", error),
-    }
+        )
+    });
 }
 
 fn main(rt: HostRuntime) {

@@ -1,37 +1,29 @@
-// What the programs tell on standard error: texts, numbers, and why a read, a write or an opening failed. Where telling fails there is nobody left to tell.
+// What the programs tell on standard error: why a read, a write or an opening failed, and at a terminal what is to be given. Where telling fails there is nobody left to
+// tell.
 #![tactic(auto)]
 
-use std::io::{Cursor, Write};
+use std::io::{Cursor, IsTerminal, Write};
 use std::{io, str};
-
-// Tells a text.
-pub fn tell<W: Write>(messages: &mut W, text: &[u8]) {
-    let _ = messages.write_all(text);
-}
-
-// Tells a number in decimal.
-pub fn tell_number<W: Write>(messages: &mut W, number: usize) {
-    let _ = write!(messages, "{number}");
-}
 
 // The system's words for an error, `Is a directory`, of the text `Is a directory (os error 21)`.
 fn words_of(text: &str) -> &str {
-    match text.split_once(" (os error ") {
-        Some((words, _)) => words,
-        None => text,
-    }
+    text.split_once(" (os error ")
+        .map_or(text, |(words, _)| words)
 }
 
 // Tells a line: what failed, a colon, and the system's words for the cause.
-pub fn tell_failure<W: Write>(messages: &mut W, what: &[u8], error: io::Error) {
+pub fn tell_failure<W: Write>(messages: &mut W, what: &str, error: io::Error) {
     let mut text = Cursor::new([0u8; 256]);
     let _ = write!(text, "{error}");
     let len = text.position().min(256) as usize;
     let bytes = text.into_inner();
-    tell(messages, what);
-    tell(messages, b": ");
-    if let Ok(written) = str::from_utf8(&bytes[..len]) {
-        tell(messages, words_of(written).as_bytes());
+    let cause = str::from_utf8(&bytes[..len]).map_or("", words_of);
+    let _ = writeln!(messages, "{what}: {cause}");
+}
+
+// At a terminal nothing is given yet: says what the program waits for.
+pub fn tell_usage(rt: &HostRuntime, usage: &str) {
+    if rt.stdin().is_terminal() {
+        let _ = rt.stderr().write_all(usage.as_bytes());
     }
-    tell(messages, b"\n");
 }

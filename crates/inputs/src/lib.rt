@@ -1,0 +1,97 @@
+// What the programs do with an input: give it to a step, part by part or byte by byte, up to its end, and open a file for that. What the bytes come to is decided by the
+// step; here they are only moved. A read or a write that fails is told on standard error with its cause.
+#![tactic(auto)]
+
+ghost use Rattle.std.specs.Prelude.{◌≡◌, ◌≤◌, Bool, length};
+ghost use Rattle.inputs.specs.Parts.{TakesAtMost};
+
+use run::keep_rest;
+use std::fs::File;
+use std::io;
+use std::io::{Read, Write};
+use telling::tell_failure;
+
+pub mod lines;
+
+// An input that was not taken to its end; what failed is told.
+#[derive(Clone, Copy, PartialEq, Eq)]
+pub struct Stopped;
+
+// Gives a step what has come of an input, again and again. The step takes bytes from the front and says how many, or `None` where it wants no more; what it leaves is kept,
+// and the next part begins with it. It is told whether anything follows: a read that brings nothing is the input's end. What was read before a read that fails is given to
+// it all the same. The loop ends, as every function does, after more reads than any input has bytes.
+pub fn for_each_part<R: Read, E: Write, F: FnMut(&mut [u8], bool) -> io::Result<Option<usize>>>(
+    reader: &mut R,
+    messages: &mut E,
+    program: &str,
+    input: &mut [u8],
+    mut step: F,
+) -> Result<(), Stopped>
+    requires callable { F.IsAlwaysCallable step }
+    requires within { (f : F) (part : _) (ended : Bool) (r : _) (after : _) (next : F) → F.step f part ended r after next → TakesAtMost part.now r }
+    ensures { length input.new ≡ length input.old }
+{
+    let mut held = 0;
+    for _ in 0..u64::MAX {
+        let got = reader.read(&mut input[held..]).map_err(|error| stop(
+            messages,
+            program,
+            "reading the input",
+            error,
+        ));
+        let end = held + got.unwrap_or(0);
+        let taken = step(&mut input[..end], got == Ok(0)).map_err(|error| stop(
+            messages,
+            program,
+            "writing standard output",
+            error,
+        ))?;
+        got?;
+        let Some(taken) = taken else {
+            return Ok(());
+        };
+        held = keep_rest(input, taken, end);
+    }
+    Err(Stopped)
+}
+
+// Tells what failed, and why.
+fn stop<E: Write>(messages: &mut E, program: &str, what: &str, error: io::Error) -> Stopped {
+    let _ = write!(messages, "{program}: ");
+    tell_failure(messages, what, error);
+    Stopped
+}
+
+// Gives a step each byte of an input, in their order, up to the input's end or a read that fails.
+pub fn for_each_byte<R: Read, F: FnMut(u8)>(reader: &mut R, mut step: F)
+    requires { F.IsAlwaysCallable step }
+{
+    let mut part = [0u8; 65536];
+    for _ in 0..u64::MAX {
+        let came = reader.read(&mut part).unwrap_or(0);
+        if came == 0 {
+            return;
+        }
+        give_all(&part[..came], &mut step);
+    }
+}
+
+// Gives a step each byte of a part.
+fn give_all<F: FnMut(u8)>(part: &[u8], step: &mut F)
+    requires { F.IsAlwaysCallable step.old }
+    ensures { F.IsAlwaysCallable step.new }
+{
+    for &byte in part {
+        step(byte);
+    }
+}
+
+// Opens a file for a step; where that fails, tells why.
+pub fn with_file<F: FnOnce(&mut File)>(rt: &HostRuntime, name: &str, step: F)
+    requires { F.IsAlwaysCallable step }
+{
+    match File::open(rt, name) {
+        Ok(mut file) => step(&mut file),
+        Err(error) => tell_failure(&mut rt.stderr(), name, error),
+    }
+}
