@@ -17,8 +17,7 @@ use grid::window::{UpToEight, wide};
 
 // Marks the cells of a list; was one not marked before?
 fn mark_all(marks: &mut [u8; 1024], list: UpToEight) -> bool
-    requires marks_len { length marks.old ≡ 1024 }
-    requires on_board { OnBoard list }
+    requires { OnBoard list }
     ensures { Changed (λ (l : List ℕ). add_new l (cells_in list)) marks.old marks.new result }
 {
     let mut new = false;
@@ -34,8 +33,7 @@ fn mark_all(marks: &mut [u8; 1024], list: UpToEight) -> bool
 
 // One look at each equation of a block in turn: one that has a marked cell marks its cells. Was one not marked before?
 fn widen(set: &BlockSet, bounds: Bounds, marks: &mut [u8; 1024]) -> bool
-    requires slots { Slots set.now.slots bounds.end_equation }
-    requires marks_len { length marks.old ≡ 1024 }
+    requires { Slots set.now.slots bounds.end_equation }
     ensures { Changed (widened (equations_between set.now bounds)) marks.old marks.new result }
 {
     let mut new = false;
@@ -69,7 +67,6 @@ fn connected_with(set: &BlockSet, bounds: Bounds, c: usize) -> [u8; 1024]
 // The marked cells of a list, from the last to the first, go to `out` from place `at` on.
 fn put_cells(marks: &[u8; 1024], cells: &[u16], out: &mut [u16; 1024], at: usize) -> usize
     requires below { all (λ c. ltb c 1024) cells.now ≡ true }
-    requires out_len { length out.old ≡ 1024 }
     requires end_bound { at + length (reverse (keep (marked marks.now) cells.now)) ≤ 1024 }
     ensures value { result ≡ at + length (reverse (keep (marked marks.now) cells.now)) }
     ensures out_after { out.new ≡ sets out.old at (reverse (keep (marked marks.now) cells.now)) }
@@ -106,7 +103,6 @@ fn put_equations(
     at: usize,
 ) -> usize
     requires slots { Slots set.now.slots bounds.end_equation }
-    requires lengths { (length slots.old ≡ 8192) × (length rests.old ≡ 1024) }
     requires end_bound { at + length (places_shown marks.now set.now bounds) ≤ 1024 }
     ensures value { result ≡ at + length (places_shown marks.now set.now bounds) }
     ensures slots_after { slots.new ≡ sets slots.old (at * 8) (joined (map (λ (e : ℕ). pad 8 65535 (reverse (slot_cells set.now.slots e))) (places_shown marks.now set.now bounds))) }
@@ -143,10 +139,8 @@ fn put_part(marks: &[u8; 1024], set: &BlockSet, bounds: Bounds, mut out: BlockSe
 
 // The marked ones of some cells are done.
 fn add_done(marks: &[u8; 1024], cells: &[u16], done: &mut [u8; 1024])
-    requires below { all (λ c. ltb c 1024) cells.now ≡ true }
-    requires done_len { length done.old ≡ 1024 }
-    ensures done_len_2 { length done.new ≡ 1024 }
-    ensures by_index { (d : ℕ) → marked done.new d ≡ (marked done.old d || (marked marks.now d && has cells.now d)) }
+    requires { all (λ c. ltb c 1024) cells.now ≡ true }
+    ensures { (d : ℕ) → marked done.new d ≡ (marked done.old d || (marked marks.now d && has cells.now d)) }
 {
     for &cell in cells {
         let c = wide(cell);

@@ -37,7 +37,7 @@ pub struct Grouped {
 
 // Puts a number behind those in the eight slots at a place.
 fn push_slot(slots: &mut [u16; 8192], place: usize, number: u16)
-    requires { (length slots.old ≡ 8192) × (place < 1024) × (length (slot_cells slots.old place) < 8) }
+    requires { (place < 1024) × (length (slot_cells slots.old place) < 8) }
     ensures { slots.new ≡ sets slots.old (place * 8) (pad 8 65535 (slot_cells slots.old place ++ (number ∷ []))) }
 {
     let mut list = slots_at(slots, place);
@@ -72,14 +72,13 @@ fn fill_columns(set: &BlockSet, bounds: Bounds, columns: &mut [u16; 8192])
 
 // Are the columns of two cells equal? The first slots that differ decide, or the first empty ones: mostly the first of all.
 fn same_columns(columns: &[u16; 8192], a: usize, b: usize) -> bool
-    requires { (length columns.now ≡ 8192) × (a < 1024) × (b < 1024) }
+    requires { (a < 1024) × (b < 1024) }
     ensures { result ≡ alike_by columns.now a b }
 {
-    let left = a * 8;
-    let right = b * 8;
-    for k in 0..8 {
-        let own = columns[left + k];
-        if own != columns[right + k] {
+    let left = &columns[a * 8..a * 8 + 8];
+    let right = &columns[b * 8..b * 8 + 8];
+    for (&own, &other) in left.iter().zip(right) {
+        if own != other {
             return false;
         }
         if own == NO_CELL {
@@ -91,7 +90,7 @@ fn same_columns(columns: &[u16; 8192], a: usize, b: usize) -> bool
 
 // The place of the first of some cells whose column equals that of a cell.
 fn first_alike(columns: &[u16; 8192], firsts: &[u16], cell: usize) -> Option<usize>
-    requires { (length columns.now ≡ 8192) × (all (λ c. ltb c 1024) firsts.now ≡ true) × (cell < 1024) }
+    requires { (all (λ c. ltb c 1024) firsts.now ≡ true) × (cell < 1024) }
     ensures place { unwrap_or result (length firsts.now) ≡ first_place (alike_by columns.now cell) firsts.now }
     ensures inside { IfSome result (λ g. g < length firsts.now) }
 {
@@ -111,7 +110,7 @@ fn fill_groups(
     sizes: &mut [u8; 1024],
     group_of: &mut [u16; 1024],
 ) -> usize
-    requires cells { (all (λ c. ltb c 1024) cells.now ≡ true) × (length cells.now ≤ 1024) × (length columns.now ≡ 8192) }
+    requires cells { (all (λ c. ltb c 1024) cells.now ≡ true) × (length cells.now ≤ 1024) }
     requires firsts_value { (firsts.old ≡ replicate 1024 0) × (sizes.old ≡ replicate 1024 0) × (group_of.old ≡ replicate 1024 0) }
     requires few_alike { all (λ c. leb (count (alike_by columns.now c) cells.now) 8) cells.now ≡ true }
     ensures { GroupsAre (alike_by columns.now) cells.now result firsts.new sizes.new group_of.new }
@@ -135,7 +134,7 @@ fn fill_groups(
 
 // The columns of some groups: those of their first cells.
 fn copy_columns(columns: &[u16; 8192], firsts: &[u16], out: &mut [u16; 8192])
-    requires { (length columns.now ≡ 8192) × (all (λ c. ltb c 1024) firsts.now ≡ true) × (length firsts.now ≤ 1024) × (length out.old ≡ 8192) }
+    requires { (all (λ c. ltb c 1024) firsts.now ≡ true) × (length firsts.now ≤ 1024) }
     ensures { out.new ≡ sets out.old 0 (joined (map (λ (c : ℕ). pad 8 65535 (slot_cells columns.now c)) firsts.now)) }
 {
     for (g, &first) in firsts.iter().enumerate() {

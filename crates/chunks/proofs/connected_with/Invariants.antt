@@ -1,12 +1,8 @@
 -- The loop's invariant: the marks are those of a list which the looks still to come connect with the cell.
 use Prim.Native.Nat.{◌-◌}
-use mathlib.Core.Path.{◌≡◌}
-use lib.ListN.{length}
 use Rattle.blocks.specs.Places.{equations_between}
 use Rattle.chunks.proofs.Marking.{Connecting}
 use Rattle.chunks.proofs.connected_with.Given as goal
 
 abbrev pub invariant-loop-look : goal.invariant-loop-look
-invariant-loop-look l =
-    (length l.marks ≡ 1024)
-    × Connecting (equations_between l.set l.bounds) (l.bounds.end_equation - l._look) (l.bounds.end_equation - l.bounds.first_equation) l.c l.marks
+invariant-loop-look l = Connecting (equations_between l.set l.bounds) (l.bounds.end_equation - l._look) (l.bounds.end_equation - l.bounds.first_equation) l.c l.marks

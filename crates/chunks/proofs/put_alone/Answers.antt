@@ -1,12 +1,9 @@
 -- `chunks::put_alone` meets its contract. Rests on the laws of `Growing`. Assumes nothing.
 use native.Mathlib.Omega.{arith}
-use Rattle.blocks.proofs.Behind.{growing_start, growing_room, growing_next, growing_pass, growing_end}
+use Rattle.blocks.proofs.Behind.{growing_room, growing_next, growing_pass, growing_end}
 use Rattle.chunks.proofs.Remaining.{slot_filler, slot_cell, bare_more, bare_pass, bare_none}
 use Rattle.chunks.proofs.put_alone.Goals as goal
 use Rattle.chunks.proofs.put_alone.Goals.{else-set-e, then-set-e}
-
-pub loop-e-init : goal.loop-e-init
-loop-e-init c = growing_start c.requires.room
 
 pub put_bare-out-requires : goal.put_bare-out-requires
 put_bare-out-requires c =

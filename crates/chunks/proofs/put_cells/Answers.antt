@@ -3,6 +3,7 @@ use Prim.Native.Nat.{◌+◌}
 use mathlib.Core.Path.{◌≡◌, refl, sym, ap, ◌∙◌}
 use mathlib.Core.List.{map-id, ◌∷◌, reverse}
 use native.Mathlib.Omega.{arith}
+use borrow.Author.Rules.{rules}
 use lib.ListN.{length, drop}
 use lib.Seq.{sets}
 use borrow.Author.Tests.{eq-eqb, ne_eqb}
@@ -19,7 +20,7 @@ use Rattle.chunks.proofs.put_cells.Goals as goal
 use Rattle.chunks.proofs.put_cells.Goals.{After-wide, Then-marks-wide-eq1}
 
 pub loop-cell-init : goal.loop-cell-init
-loop-cell-init c = (tt, tt, storing_pass (storing_start c.requires.out_len) (sym (keep_reverse (marked c.args.marks.now) c.args.cells.now)))
+loop-cell-init c = (tt, tt, storing_pass (storing_start (search rules)) (sym (keep_reverse (marked c.args.marks.now) c.args.cells.now)))
 
 -- the next cell is the first of those still to come
 more : (c : After-wide)

@@ -1,8 +1,8 @@
 -- `chunks::put_parts` meets its contract. Rests on the laws of `Growing` and on `parts_others`. Assumes nothing.
-use Prim.Native.Nat.{ℕ, ◌+◌, ◌<◌}
+use Prim.Native.Nat.{◌+◌, ◌<◌}
 use mathlib.Core.Path.{◌≡◌}
 use native.Mathlib.Omega.{arith}
-use lib.ListN.{get_or, length-replicate}
+use lib.ListN.{get_or}
 use borrow.Author.Tests.{eq-eqb, ne_eqb}
 use Rattle.blocks.proofs.Behind.{growing_start, growing_room, growing_next, growing_pass, growing_end}
 use Rattle.blocks.proofs.Between.{length_cells, cell_place, cells_below}
@@ -14,7 +14,7 @@ pub loop-cell-init : goal.loop-cell-init
 loop-cell-init c =
     let set = c.args.set.now in
     let start : c.args.bounds.first_cell + 0 ≡ c.args.bounds.first_cell = omega arith in
-    (length-replicate {A = ℕ} 1024 0, rw start (growing_pass (growing_start c.requires.room) _ (parts_start set.cells set.slots set.rests c.args.bounds 1024)))
+    rw start (growing_pass (growing_start c.requires.room) _ (parts_start set.cells set.slots set.rests c.args.bounds 1024))
 
 -- the place of the next cell among the set's cells
 place : (c : After-wide-c)
@@ -37,11 +37,11 @@ put_part-out-requires-clause-room c =
     let loop = c.loop-cell in
     let set = c.args.set.now in
     let at = place (goal.at.put_part-out-requires-clause-room c).After-wide-c in
-    growing_room loop.invariant.1 c.requires.room.fits _ _
+    growing_room loop.invariant c.requires.room.fits _ _
     (parts_first set.cells set.slots set.rests c.args.bounds loop.done _ _ at.0 at.1 (ne_eqb _ _ c.if-done-c-ne1.true) _ c.connected_with-marks.ensures)
 
-pub add_done-requires-clause-below : goal.add_done-requires-clause-below
-add_done-requires-clause-below c =
+pub add_done-requires : goal.add_done-requires
+add_done-requires c =
     rw c.cells_of-cells.ensures (cells_below c.args.set.now.cells c.args.bounds.first_cell c.args.bounds.end_cell c.requires.stands.0.in_cells)
 
 pub loop-cell-preserved : goal.loop-cell-preserved
@@ -52,15 +52,13 @@ loop-cell-preserved c =
     let at = place (goal.at.loop-cell-preserved c).After-wide-c in
     let next : bounds.first_cell + (loop.cell-index + 1) ≡ bounds.first_cell + loop.cell-index + 1 = omega arith in
     elim c.if-done-c-ne1.branch [
-      | then-done-c-ne1 w ↦ rw (w.out-is, w.done-is, next) (
-        w.add_done.ensures.done_len_2,
-        growing_next loop.invariant.1 c.requires.room.fits _ _
-            (parts_others set.cells set.slots set.rests bounds loop.done _ _ at.0 at.1 (ne_eqb _ _ w.if-done-c-ne1.true) _ w.connected_with-marks.ensures w.add_done.new.done (omega arith)
-            (rw c.cells_of-cells.ensures at w.add_done.ensures.by_index))
-            _ w.put_part-out.ensures,
-      )
+      | then-done-c-ne1 w ↦ rw (w.out-is, w.done-is, next)
+          (growing_next loop.invariant c.requires.room.fits _ _
+          (parts_others set.cells set.slots set.rests bounds loop.done _ _ at.0 at.1 (ne_eqb _ _ w.if-done-c-ne1.true) _ w.connected_with-marks.ensures w.add_done.new.done (omega arith)
+          (rw c.cells_of-cells.ensures at w.add_done.ensures))
+          _ w.put_part-out.ensures)
       | else-done-c-ne1 w ↦ rw (w.out-is, w.done-is, next)
-          (loop.invariant.0, growing_pass loop.invariant.1 _ (parts_pass set.cells set.slots set.rests bounds loop.done _ _ at.0 at.1 (eq-eqb _ _ w.if-done-c-ne1.false)))
+          (growing_pass loop.invariant _ (parts_pass set.cells set.slots set.rests bounds loop.done _ _ at.0 at.1 (eq-eqb _ _ w.if-done-c-ne1.false)))
     ]
 
 pub returns : goal.returns
@@ -70,4 +68,4 @@ returns c =
     let bounds = c.args.bounds in
     let long = length_cells set.cells bounds.first_cell bounds.end_cell in
     let all = rw c.cells_of-cells.ensures at c.loop-cell-test.false in
-    growing_end loop.invariant.1 (parts_done set.cells set.slots set.rests bounds loop.done (bounds.first_cell + loop.cell-index) (omega arith))
+    growing_end loop.invariant (parts_done set.cells set.slots set.rests bounds loop.done (bounds.first_cell + loop.cell-index) (omega arith))

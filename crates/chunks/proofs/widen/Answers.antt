@@ -1,27 +1,13 @@
 -- `chunks::widen` meets its contract. The loop's invariant is told beside it. Assumes nothing.
 use mathlib.Core.Path.{sym, ap, ◌∙◌}
 use mathlib.Core.List.{List}
-use borrow.Author.Rules.{rules}
 use Rattle.blocks.specs.Blocks.{BlockEquation}
-use Rattle.blocks.proofs.Between.{equations_none, listed_on_board}
+use Rattle.blocks.proofs.Between.{equations_none}
 use Rattle.chunks.specs.Chunks.{widened}
 use Rattle.chunks.proofs.Looked.{look_pass, look_add}
-use Rattle.chunks.proofs.Marking.{towards_start, towards_end, towards_pass, towards_new, towards_changed}
+use Rattle.chunks.proofs.Marking.{towards_end, towards_pass, towards_new, towards_changed}
 use Rattle.chunks.proofs.widen.Goals as goal
 use Rattle.chunks.proofs.widen.Goals.{else-meets_marks, then-meets_marks+else-mark_all, then-meets_marks+then-mark_all}
-
-pub loop-e-init : goal.loop-e-init
-loop-e-init c = (search rules, λ l h. towards_start h)
-
-pub meets_marks-requires : goal.meets_marks-requires
-meets_marks-requires c = listed_on_board _ c.args.set.now.slots _ c.slots_at-list.ensures c.args.bounds.end_equation c.requires.slots c.loop-e-test.true
-
-pub mark_all-requires : goal.mark_all-requires
-mark_all-requires c =
-    record {
-      marks_len = c.loop-e.invariant.0;
-      on_board = listed_on_board _ c.args.set.now.slots _ c.slots_at-list.ensures c.args.bounds.end_equation c.requires.slots c.loop-e-test.true;
-    }
 
 pub loop-e-preserved : goal.loop-e-preserved
 loop-e-preserved c =

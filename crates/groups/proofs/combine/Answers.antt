@@ -1,9 +1,8 @@
 -- `groups::combine` meets its contract: what the functions that it calls are asked holds of a block with few equations for each cell, and what they
 -- tell together is the block over its groups. Rests on the laws of `BlockColumns` and `GroupedBlock`. Assumes nothing.
 use mathlib.Core.Path.{refl, ◌∙◌}
-use Prim.Native.Nat.{ℕ}
 use native.Mathlib.Omega.{arith}
-use lib.ListN.{length-replicate, length-take}
+use lib.ListN.{length-take}
 use Rattle.blocks.proofs.Between.{length_cells, cells_below}
 use Rattle.groups.proofs.BlockColumns.{block_cells, cells_order, equations_order, equation_once, columns_few, groups_eight}
 use Rattle.groups.proofs.GroupedBlock.{first_cells_below, few_groups, combined}
@@ -36,7 +35,7 @@ fill_groups-groups-requires c =
     let long = length_cells s.cells bounds.first_cell bounds.end_cell in
     rw c.cells_of-cells.ensures
     record {
-      cells = (cells_below s.cells bounds.first_cell bounds.end_cell c.requires.arrays.in_cells, omega arith, are.whole);
+      cells = (cells_below s.cells bounds.first_cell bounds.end_cell c.requires.arrays.in_cells, omega arith);
       firsts_value = (refl, refl, refl);
       few_alike = rw (block_cells s.cells s.slots s.rests bounds) at (groups_eight s.cells s.slots s.rests bounds h _ are);
     }
@@ -48,7 +47,7 @@ copy_columns-requires c =
     let found = rw c.cells_of-cells.ensures at c.fill_groups-groups.ensures in
     let below = first_cells_below s.cells s.slots s.rests c.args.bounds c.requires.combinable _ are _ _ _ _ found in
     let few = few_groups s.cells s.slots s.rests c.args.bounds c.requires.combinable _ are _ _ _ _ found in
-    (are.whole, below, omega (arith, length-take c.fill_groups-groups.result c.fill_groups-groups.new.firsts), length-replicate {A = ℕ} 8192 65535)
+    (below, omega (arith, length-take c.fill_groups-groups.result c.fill_groups-groups.new.firsts))
 
 pub fill_needs-requires-clause-slots : goal.fill_needs-requires-clause-slots
 fill_needs-requires-clause-slots c =

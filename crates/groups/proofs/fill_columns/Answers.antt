@@ -49,9 +49,3 @@ loop-e-preserved c =
     let first = c.args.bounds.first_equation in
     let more : l.e + 1 - first ≡ l.e - first + 1 = omega arith in
     rw more (columns_next c.args.set.now.slots first (l.e - first) l.invariant _ (rw (cells (goal.at.loop-e-preserved c).After-slots_at) at c.push_equation.ensures))
-
-pub returns : goal.returns
-returns c =
-    let l = c.loop-e in
-    let end : l.e ≡ c.args.bounds.end_equation = omega arith in
-    rw end at l.invariant

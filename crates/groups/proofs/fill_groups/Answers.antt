@@ -38,7 +38,7 @@ shared_ref_as_front-first_alike c = omega (arith, room (goal.at.shared_ref_as_fr
 pub first_alike-requires : goal.first_alike-requires
 first_alike-requires c =
     let below = groups_below (same_equivalence (slot_cells c.args.columns.now)) c.loop-cell.invariant (all_take (λ d. ltb d 1024) c.loop-cell.cell-index c.args.cells.now c.requires.cells.0) in
-    (c.requires.cells.2, below, on_board (goal.at.first_alike-requires c).After-wide-c)
+    (below, on_board (goal.at.first_alike-requires c).After-wide-c)
 
 pub offset_bounds-firsts-n : goal.offset_bounds-firsts-n
 offset_bounds-firsts-n c = omega (arith, room (goal.at.offset_bounds-firsts-n c).After-wide-c)
