@@ -7,7 +7,7 @@ use Rattle.lists.proofs.Arrays.{take_replicate}
 use Rattle.records.specs.declared.BoardMark.{BoardMark}
 use Rattle.lines.specs.declared.StartLine.{StartLine}
 use Rattle.record_lines.specs.Answers.{verdict_by_mark}
-use Rattle.board_lines.specs.Verdicts.{verdict_on}
+use Rattle.board_lines.specs.Verdicts.{head_on, verdict_on}
 
 abbrev pub zeros : List ℕ
 zeros = replicate 1025 0
@@ -16,7 +16,6 @@ pub zeros_long : (n : ℕ) → n ≤ 1025 → n ≡ length (take n zeros)
 zeros_long n h = rw (take_replicate {A = ℕ} n 1025 0 h) (sym (length-replicate {A = ℕ} n 0))
 
 pub lent_zeros : (mark : BoardMark) (read : StartLine) → read.board.len ≤ 1025
-    → verdict_by_mark mark read.board.rows read.board.columns read.start_row read.start_column (take read.board.len read.board.cells)
-    (take read.board.len zeros) (take read.board.len zeros)
+    → verdict_by_mark (head_on mark read) (take read.board.len read.board.cells) (take read.board.len zeros) (take read.board.len zeros)
     ≡ verdict_on mark read
 lent_zeros mark read h = rw (take_replicate {A = ℕ} read.board.len 1025 0 h)

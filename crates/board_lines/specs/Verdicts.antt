@@ -3,10 +3,10 @@
 -- line has cells. Assumes nothing.
 use Rattle.std.specs.Prelude.{cond, List, [], ◌∷◌, ◌++◌, ℕ, eqb, take, replicate}
 use Rattle.records.specs.declared.BoardMark.{BoardMark}
+use Rattle.records.specs.declared.Head.{Head}
 use Rattle.verdict.specs.declared.Verdict.{Verdict}
 use Rattle.verdict.specs.Verdict.{verdict_number, VerdictSeen}
 use Rattle.show.specs.Cells.{cells_text}
-use Rattle.lines.specs.declared.Line.{Line}
 use Rattle.lines.specs.declared.StartLine.{StartLine}
 use Rattle.lines.specs.Lines.{start_line_of, answer_text}
 use Rattle.record_lines.specs.Answers.{verdict_text, verdict_by_mark}
@@ -27,13 +27,13 @@ rounds_text = slice_text (32 ∷ 114 ∷ 111 ∷ 117 ∷ 110 ∷ 100 ∷ 115 ∷
 abbrev pub verdict_seen_text : VerdictSeen → List ℕ
 verdict_seen_text w = verdict_text w.answer ++ (picture_text w.answer w.shown ++ rounds_text w.answer w.opened_in)
 
--- the answer to the line's board and start, by a mark
-abbrev pub judged_on : BoardMark → Line → ℕ → ℕ → VerdictSeen
-judged_on mark board row column =
-    verdict_by_mark mark board.rows board.columns row column (take board.len board.cells) (replicate board.len 0) (replicate board.len 0)
+-- the line's board and start as the head of a record
+abbrev pub head_on : BoardMark → StartLine → Head
+head_on mark l = record { mark = mark; rows = l.board.rows; columns = l.board.columns; row = l.start_row; column = l.start_column }
 
+-- the answer to the line's board and start, by a mark
 abbrev pub verdict_on : BoardMark → StartLine → VerdictSeen
-verdict_on mark l = judged_on mark l.board l.start_row l.start_column
+verdict_on mark l = verdict_by_mark (head_on mark l) (take l.board.len l.board.cells) (replicate l.board.len 0) (replicate l.board.len 0)
 
 unfoldable pub verdict_line : BoardMark → List ℕ → List ℕ
 verdict_line mark line = answer_text (λ l. verdict_seen_text (verdict_on mark l)) (start_line_of line)

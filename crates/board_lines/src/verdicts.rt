@@ -7,7 +7,7 @@ ghost use Rattle.board_lines.specs.Verdicts.{picture_text, rounds_text, verdict_
 
 use lines::{put_unreadable, read_start_line};
 use record_lines::{put_verdict, verdict_by_mark};
-use records::BoardMark;
+use records::{BoardMark, Head};
 use show::{put_cells, put_rounds};
 use text::Text;
 use verdict::Verdict;
@@ -47,15 +47,13 @@ pub fn verdict_line(mark: BoardMark, line: &[u8], out: &mut Text<'_>)
     let mut all_rounds = [0u16; 1025];
     let picture = &mut all_shown[..board.len];
     let opened_in = &mut all_rounds[..board.len];
-    let verdict = verdict_by_mark(
+    let head = Head {
         mark,
-        board.rows,
-        board.columns,
-        read.start_row,
-        read.start_column,
-        board.cells(),
-        picture,
-        opened_in,
-    );
+        rows: board.rows,
+        columns: board.columns,
+        row: read.start_row,
+        column: read.start_column,
+    };
+    let verdict = verdict_by_mark(head, board.cells(), picture, opened_in);
     put_judged(out, verdict, picture, opened_in);
 }

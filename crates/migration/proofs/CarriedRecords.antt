@@ -3,7 +3,7 @@
 use mathlib.Core.Path.{◌≡◌, refl, sym, ap, ◌∙◌}
 use mathlib.Core.Bool.{Bool, true, false}
 use mathlib.Core.List.{List, ◌++◌, append_assoc}
-use Prim.Native.Nat.{ℕ, ◌+◌, ◌-◌, ◌≤◌, ◌<◌}
+use Prim.Native.Nat.{ℕ, ◌+◌, ◌-◌, ◌≤◌, ◌<◌, min}
 use native.Mathlib.Nat.{add_assoc, add-zero, zero-add}
 use native.Mathlib.Omega.{arith}
 use lib.ListN.{length, take, drop, length-drop, take-append-drop}
@@ -13,7 +13,7 @@ use Rattle.records.specs.Records.{record_length}
 use Rattle.records.proofs.RecordKinds.{six_or_more}
 use Rattle.migration.specs.declared.Counts.{Counts}
 use Rattle.migration.specs.Migrated.{is_stored, is_changed, migrated_record, migrated}
-use Rattle.migration.specs.Parts.{no_counts, counts_sum, counts_of, counts}
+use Rattle.migration.specs.Parts.{no_counts, counts_sum, counts_after, counts_of, counts}
 use Rattle.migration.specs.Steps.{Carried}
 use Rattle.migration.proofs.Fronts.{stored_whole, front_long, front_length}
 use Rattle.migration.proofs.MigratedRecords.{record_length_kept, record_beside}
@@ -29,6 +29,15 @@ counts_left a = rw (zero-add a.records, zero-add a.changed, zero-add a.bytes)
 
 pub counts_right : (a : Counts) → counts_sum a no_counts ≡ a
 counts_right a = rw (add-zero a.records, add-zero a.changed, add-zero a.bytes)
+
+-- where no sum is too large, they are exact
+pub sums_exact : (a b : Counts) → a.records + b.records < 18446744073709551616 → a.changed + b.changed < 18446744073709551616 → a.bytes + b.bytes < 18446744073709551616
+    → counts_after a b ≡ counts_sum a b
+sums_exact a b f g h =
+    let records : min (a.records + b.records) 18446744073709551615 ≡ a.records + b.records = omega arith in
+    let changed : min (a.changed + b.changed) 18446744073709551615 ≡ a.changed + b.changed = omega arith in
+    let bytes : min (a.bytes + b.bytes) 18446744073709551615 ≡ a.bytes + b.bytes = omega arith in
+    rw (records, changed, bytes)
 
 bit_small : (t : Bool) → bit t ≤ 1
 bit_small true = omega arith

@@ -23,7 +23,7 @@ use Rattle.refusals.proofs.FirstFailure.{then_tested, tested_append}
 use Rattle.refusals.proofs.RefusalNumbers.{refusal_numbered}
 use Rattle.refusals.proofs.Starts.{past_start_off, mine_start_fails, safe_start_passes}
 use Rattle.records.specs.declared.BoardMark.TheVariants.{Plain}
-use Rattle.records.specs.Records.{cells_in}
+use Rattle.records.specs.Records.{head_of, cells_in}
 use Rattle.verdict.specs.declared.Verdict.{Verdict}
 use Rattle.verdict.specs.Verdict.{verdict_number, VerdictSeen, verdict_after_tests, judged_from, is_solvable}
 use Rattle.record_lines.specs.Answers.{picture_size, board_verdict}
@@ -108,16 +108,16 @@ module _ (rows columns row column : ℕ) (b : List ℕ) where
   lengths_told : all (length_ok rows columns) (length b ∷ length zeros ∷ length zeros ∷ []) ≡ all (length_ok rows columns) (length b ∷ picture ∷ [])
   lengths_told = rw (length-replicate {A = ℕ} picture 0) (ap (λ (t : Bool). length_ok rows columns (length b) && t) (and_self_left (length_ok rows columns picture) true))
 
-  verdict_after : board_verdict Plain rows columns row column b ≡ after (then_tested earlier later)
+  verdict_after : board_verdict (record { mark = Plain; rows = rows; columns = columns; row = row; column = column }) b ≡ after (then_tested earlier later)
   unfolding board_verdict is_solvable board_tested
   verdict_after =
       ap (λ (t : Bool). after (tested (tests_with rows columns b t (start_ok rows columns row column) ++ (test (start_safe columns row column b) StartMine ∷ [])))) lengths_told
       ∙ ap after (tested_append (tests_by rows columns b picture (start_ok rows columns row column)) (test (start_safe columns row column b) StartMine ∷ []) refl)
 
-  refused_by_five : tested_number earlier ≢ 0 → verdict_number (board_verdict Plain rows columns row column b) ≡ tested_number earlier
+  refused_by_five : tested_number earlier ≢ 0 → verdict_number (board_verdict (record { mark = Plain; rows = rows; columns = columns; row = row; column = column }) b) ≡ tested_number earlier
   refused_by_five some = ap verdict_number verdict_after ∙ earlier_refuse judged_here zeros zeros earlier later some
 
-  told_by_the_last : tested_number earlier ≡ 0 → board_verdict Plain rows columns row column b ≡ after later
+  told_by_the_last : tested_number earlier ≡ 0 → board_verdict (record { mark = Plain; rows = rows; columns = columns; row = row; column = column }) b ≡ after later
   told_by_the_last none = verdict_after ∙ earlier_accept judged_here zeros zeros earlier later none
 
   -- as it was stored: with a printed start, or with a 0, test 7 passes
@@ -133,7 +133,7 @@ module _ (rows columns row column : ℕ) (b : List ℕ) where
 
 -- what it is judged by, and what it was
 abbrev pub verdict_of : List ℕ → Verdict
-verdict_of r = board_verdict Plain (get_or r 2 0) (get_or r 3 0) (get_or r 4 0) (get_or r 5 0) (cells_in r)
+verdict_of r = board_verdict (head_of Plain r) (cells_in r)
 
 abbrev pub number_stored : List ℕ → ℕ
 number_stored r = stored_number (get_or r 2 0) (get_or r 3 0) (get_or r 4 0) (get_or r 5 0) (cells_in r) (picture_size (get_or r 2 0) (get_or r 3 0))
@@ -161,7 +161,7 @@ record SameStart (r : List ℕ) (row column : ℕ) : Type 0 where
   same_cell_lem : start_cell (get_or r 3 0) row column ≡ cell_stored r
 
 -- the verdict by such a start
-same_verdict_lem : (r : List ℕ) (row column : ℕ) → SameStart r row column → JudgedAs r (board_verdict Plain (get_or r 2 0) (get_or r 3 0) row column (cells_in r))
+same_verdict_lem : (r : List ℕ) (row column : ℕ) → SameStart r row column → JudgedAs r (board_verdict (record { mark = Plain; rows = get_or r 2 0; columns = get_or r 3 0; row = row; column = column }) (cells_in r))
 same_verdict_lem r row column s =
     let rows = get_or r 2 0 in
     let columns = get_or r 3 0 in

@@ -5,12 +5,10 @@
 
 ghost use Rattle.std.specs.Prelude.{◌≡◌, true, false, not, ◌&&◌, ◌+◌, ◌*◌, ◌≤◌, ◌<◌, length, get_or, take, drop};
 ghost use Rattle.migration.specs.Migrated.{is_stored, is_open, first_zero, started_at, migrated_record};
-ghost use Rattle.migration.specs.Parts.{no_counts, counts_sum, counts_after, counts_of, Migrates, Progress};
+ghost use Rattle.migration.specs.Parts.{no_counts, counts_after, counts_of, Migrates, Progress};
 ghost use Rattle.migration.specs.Steps.{is_mark, may_begin, Carried};
 
-use grid::window::wide_byte;
 use records::record_length;
-use run::capped_sum;
 
 // How many records passed through, how many of them changed, and how many bytes they have.
 #[derive(Clone, Copy)]
@@ -46,7 +44,7 @@ fn first_zero(cells: &[u8]) -> usize
 fn is_mark(first: u8, second: u8) -> bool
     ensures { result ≡ is_mark first second }
 {
-    if first == 77 { second == 66 } else { false }
+    first == b'M' && second == b'B'
 }
 
 // Does a whole record with the mark stand at the front?
@@ -56,18 +54,14 @@ fn is_stored(input: &[u8]) -> bool
     if input.len() < 6 {
         return false;
     }
-    if is_mark(input[0], input[1]) {
-        record_length(input) <= input.len()
-    } else {
-        false
-    }
+    is_mark(input[0], input[1]) && record_length(input) <= input.len()
 }
 
 // Is it the retired start?
 fn is_open(row: u8, column: u8) -> bool
     ensures { result ≡ is_open row column }
 {
-    if row == 255 { column == 255 } else { false }
+    row == 255 && column == 255
 }
 
 // Writes the row and the column of a cell in the place of the start.
@@ -75,7 +69,7 @@ fn start_at(stored: &mut [u8], cell: usize)
     requires { (6 ≤ length stored.old) × (cell < get_or stored.old 2 0 * get_or stored.old 3 0) }
     ensures { stored.new ≡ started_at stored.old cell }
 {
-    let columns = wide_byte(stored[3]);
+    let columns = usize::from(stored[3]);
     let row = (cell / columns) as u8;
     let column = (cell % columns) as u8;
     stored[4] = row;
@@ -118,26 +112,14 @@ pub fn no_counts() -> Counts
     }
 }
 
-// Records, and those behind them.
-fn counts_sum(counts: Counts, more: Counts) -> Counts
-    requires { (counts.records + more.records < 18446744073709551616) × (counts.changed + more.changed < 18446744073709551616) × (counts.bytes + more.bytes < 18446744073709551616) }
-    ensures { result ≡ counts_sum counts more }
-{
-    Counts {
-        records: counts.records + more.records,
-        changed: counts.changed + more.changed,
-        bytes: counts.bytes + more.bytes,
-    }
-}
-
-// The counts of a run after a part of its input.
+// Records, and those behind them, each count as far as a number goes.
 pub fn counts_after(counts: Counts, more: Counts) -> Counts
     ensures { result ≡ counts_after counts more }
 {
     Counts {
-        records: capped_sum(counts.records, more.records),
-        changed: capped_sum(counts.changed, more.changed),
-        bytes: capped_sum(counts.bytes, more.bytes),
+        records: counts.records.saturating_add(more.records),
+        changed: counts.changed.saturating_add(more.changed),
+        bytes: counts.bytes.saturating_add(more.bytes),
     }
 }
 
@@ -167,7 +149,7 @@ fn migrate_records(input: &mut [u8]) -> Counts
     let mut counts = no_counts();
     while stored_at(input, counts.bytes) {
         let one = migrate_at(input, counts.bytes);
-        counts = counts_sum(counts, one);
+        counts = counts_after(counts, one);
     }
     counts
 }
@@ -176,13 +158,11 @@ fn migrate_records(input: &mut [u8]) -> Counts
 fn may_begin(input: &[u8]) -> bool
     ensures { result ≡ may_begin input.now }
 {
-    if input.len() == 0 {
-        return true;
+    match input {
+        [] => true,
+        [first] => *first == b'M',
+        [first, second, ..] => is_mark(*first, *second),
     }
-    if input.len() == 1 {
-        return input[0] == 77;
-    }
-    is_mark(input[0], input[1])
 }
 
 // Does what is left from a place on wait for more bytes?
@@ -190,11 +170,7 @@ fn waits_at(input: &[u8], at: usize, ended: bool) -> bool
     requires { at ≤ length input.now }
     ensures { result ≡ (not ended && may_begin (drop at input.now)) }
 {
-    if ended {
-        false
-    } else {
-        may_begin(&input[at..])
-    }
+    !ended && may_begin(&input[at..])
 }
 
 // Carries over a part of the input. `copying` says that no whole record stood at some place before, so that all is copied, and `ended` that nothing follows the part.

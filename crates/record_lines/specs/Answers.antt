@@ -2,12 +2,11 @@
 -- record. Assumes nothing.
 use Rattle.std.specs.Prelude.{Bool, cond, ◌&&◌, List, [], ◌∷◌, ◌++◌, ℕ, ◌*◌, leb, eqb, replicate}
 use Rattle.grid.specs.Window.{flat}
-use Rattle.refusals.specs.declared.Refusal.TheVariants.{Mark}
 use Rattle.records.specs.declared.BoardMark.{BoardMark}
-use Rattle.records.specs.declared.BoardMark.TheVariants.{Plain, Total, Unknown}
+use Rattle.records.specs.declared.BoardMark.TheVariants.{Plain, Total}
+use Rattle.records.specs.declared.Head.{Head}
 use Rattle.verdict.specs.declared.Verdict.{Verdict}
-use Rattle.verdict.specs.declared.Verdict.TheVariants.{Refused}
-use Rattle.verdict.specs.Verdict.{verdict_number, verdict_yes, verdict_opened, verdict_grade, verdict_rounds, VerdictSeen, verdict_seen, is_solvable, is_solvable_total}
+use Rattle.verdict.specs.Verdict.{verdict_number, verdict_yes, verdict_opened, verdict_grade, verdict_rounds, VerdictSeen, is_solvable, is_solvable_total}
 use Rattle.text.specs.Text.{decimal}
 
 -- `yes ` and `no `
@@ -30,12 +29,14 @@ unfoldable pub picture_size : ℕ → ℕ → ℕ
 picture_size rows columns = cond (leb rows 32 && leb columns 32) (rows * columns) 0
 
 -- the verdict of a board by its mark, as its caller sees it: of a plain board the one that knows no mine total, of one that shows its total the one that goes by it
-abbrev pub verdict_by_mark : BoardMark → ℕ → ℕ → ℕ → ℕ → List ℕ → List ℕ → List ℕ → VerdictSeen
-verdict_by_mark Plain rows columns row column cells shown opened_in = is_solvable flat rows columns row column cells shown opened_in
-verdict_by_mark Total rows columns row column cells shown opened_in = is_solvable_total rows columns row column cells shown opened_in
-verdict_by_mark Unknown rows columns row column cells shown opened_in = verdict_seen (Refused Mark) shown opened_in
+abbrev pub judged_by : BoardMark → Head → List ℕ → List ℕ → List ℕ → VerdictSeen
+judged_by Plain h cells shown opened_in = is_solvable flat h.rows h.columns h.row h.column cells shown opened_in
+judged_by Total h cells shown opened_in = is_solvable_total h.rows h.columns h.row h.column cells shown opened_in
+
+-- by the head of its record
+abbrev pub verdict_by_mark : Head → List ℕ → List ℕ → List ℕ → VerdictSeen
+verdict_by_mark h cells shown opened_in = judged_by h.mark h cells shown opened_in
 
 -- the verdict of a record's board, which is lent zeros for the picture and for the rounds of its cells
-unfoldable pub board_verdict : BoardMark → ℕ → ℕ → ℕ → ℕ → List ℕ → Verdict
-board_verdict mark rows columns row column cells =
-    (verdict_by_mark mark rows columns row column cells (replicate (picture_size rows columns) 0) (replicate (picture_size rows columns) 0)).answer
+unfoldable pub board_verdict : Head → List ℕ → Verdict
+board_verdict h cells = (verdict_by_mark h cells (replicate (picture_size h.rows h.columns) 0) (replicate (picture_size h.rows h.columns) 0)).answer

@@ -8,8 +8,7 @@ ghost use Rattle.verdict.specs.Verdict.{verdict_seen};
 ghost use Rattle.record_lines.specs.Answers.{verdict_word, verdict_text, line_text, picture_size, verdict_by_mark, board_verdict};
 
 use grid::window::FLAT;
-use records::BoardMark;
-use refusals::Refusal;
+use records::{BoardMark, Head};
 use show::put_refused;
 use text::Text;
 use verdict::{Verdict, is_solvable, is_solvable_total};
@@ -64,53 +63,45 @@ fn picture_size(rows: usize, columns: usize) -> usize
     }
 }
 
-// The verdict of a board by its mark. Which mark is judged how, is decided here alone.
+// The verdict of a board by the head of its record. Which mark is judged how, is decided here alone.
 pub fn verdict_by_mark(
-    mark: BoardMark,
-    rows: usize,
-    columns: usize,
-    row: usize,
-    column: usize,
+    head: Head,
     cells: &[u8],
     picture: &mut [u8],
     opened_in: &mut [u16],
 ) -> Verdict
     ensures { verdict_seen result picture.new opened_in.new
-        ≡ verdict_by_mark mark rows columns row column cells.now picture.old opened_in.old }
+        ≡ verdict_by_mark head cells.now picture.old opened_in.old }
 {
-    match mark {
+    match head.mark {
         BoardMark::Plain => is_solvable(
-            FLAT, rows, columns, row, column, cells, picture, opened_in,
+            FLAT,
+            head.rows,
+            head.columns,
+            head.row,
+            head.column,
+            cells,
+            picture,
+            opened_in,
         ),
         BoardMark::Total => is_solvable_total(
-            rows, columns, row, column, cells, picture, opened_in,
+            head.rows,
+            head.columns,
+            head.row,
+            head.column,
+            cells,
+            picture,
+            opened_in,
         ),
-        BoardMark::Unknown => Verdict::Refused(Refusal::Mark),
     }
 }
 
-// The verdict of a record's board, by its mark. Picture and rounds are lent for the time of the call.
-pub fn board_verdict(
-    mark: BoardMark,
-    rows: usize,
-    columns: usize,
-    row: usize,
-    column: usize,
-    cells: &[u8],
-) -> Verdict
-    ensures { result ≡ board_verdict mark rows columns row column cells.now }
+// The verdict of a record's board. Picture and rounds are lent for the time of the call.
+pub fn board_verdict(head: Head, cells: &[u8]) -> Verdict
+    ensures { result ≡ board_verdict head cells.now }
 {
-    let size = picture_size(rows, columns);
+    let size = picture_size(head.rows, head.columns);
     let mut picture = [0u8; 1024];
     let mut opened_in = [0u16; 1024];
-    verdict_by_mark(
-        mark,
-        rows,
-        columns,
-        row,
-        column,
-        cells,
-        &mut picture[..size],
-        &mut opened_in[..size],
-    )
+    verdict_by_mark(head, cells, &mut picture[..size], &mut opened_in[..size])
 }

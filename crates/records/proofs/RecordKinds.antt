@@ -12,13 +12,12 @@ use lib.Dec.{ltb}
 use lib.ListN.{length, get_or, drop, length-append, length-drop, get_or-append}
 use lib.Seq.{take-append-le, drop-append-le}
 use borrow.Author.Tests.{lt-ltb, le-ltb}
-use Rattle.lists.proofs.Tests.{Decided, decided}
+use Rattle.std.specs.Prelude.{Option, None, Some, Result, Ok, Err}
 use Rattle.refusals.specs.declared.Refusal.{Refusal}
 use Rattle.refusals.specs.declared.Refusal.TheVariants.{Mark, Short}
 use Rattle.records.specs.declared.BoardMark.{BoardMark}
-use Rattle.records.specs.declared.Record.{Record}
-use Rattle.records.specs.declared.Record.TheVariants.{End, Damaged, Whole}
-use Rattle.records.specs.Records.{record_length, board_mark, known_mark, record_of, cells_in}
+use Rattle.records.specs.declared.Head.{Head}
+use Rattle.records.specs.Records.{record_length, board_mark, head_of, record_of, cells_in}
 
 -- ---- a record's length
 
@@ -61,77 +60,77 @@ length_most input bytes = go (ltb (length input) 6)
 
 -- ---- what a part of the input is
 
-abbrev pub mark_of : List ℕ → BoardMark
+abbrev pub mark_of : List ℕ → Option BoardMark
 mark_of input = board_mark (get_or input 0 0) (get_or input 1 0)
 
-pub record_none : (input : List ℕ) → length input ≡ 0 → End ≡ record_of input
+pub record_none : (input : List ℕ) → length input ≡ 0 → Ok None ≡ record_of input
 unfolding record_of
 record_none [] h = refl
 record_none (x ∷ l) h = absurd (omega arith)
 
-pub record_lone : (input : List ℕ) → (length input ≡ 0 → ⊥) → length input < 2 → Damaged Short ≡ record_of input
+pub record_lone : (input : List ℕ) → (length input ≡ 0 → ⊥) → length input < 2 → Err Short ≡ record_of input
 unfolding record_of
 record_lone [] n h = absurd (n refl)
 record_lone (x ∷ []) n h = refl
 record_lone (x ∷ y ∷ l) n h = absurd (omega arith)
 
-pub record_unknown : (input : List ℕ) → 2 ≤ length input → known_mark (mark_of input) ≡ false → Damaged Mark ≡ record_of input
+pub record_unknown : (input : List ℕ) → 2 ≤ length input → mark_of input ≡ None → Err Mark ≡ record_of input
 unfolding record_of
 record_unknown [] h m = absurd (omega arith)
 record_unknown (x ∷ []) h m = absurd (omega arith)
 record_unknown (x ∷ y ∷ l) h m = rw m
 
-pub record_short : (input : List ℕ) → 2 ≤ length input → known_mark (mark_of input) ≡ true → length input < record_length input → Damaged Short ≡ record_of input
-unfolding record_of
-record_short [] h m s = absurd (omega arith)
-record_short (x ∷ []) h m s = absurd (omega arith)
-record_short (x ∷ y ∷ l) h m s = rw (m, lt-ltb (length (x ∷ y ∷ l)) (record_length (x ∷ y ∷ l)) s)
+module _ (mark : BoardMark) where
+  pub record_short : (input : List ℕ) → 2 ≤ length input → mark_of input ≡ Some mark → length input < record_length input → Err Short ≡ record_of input
+  unfolding record_of
+  record_short [] h m s = absurd (omega arith)
+  record_short (x ∷ []) h m s = absurd (omega arith)
+  record_short (x ∷ y ∷ l) h m s = rw (m, lt-ltb (length (x ∷ y ∷ l)) (record_length (x ∷ y ∷ l)) s)
 
-pub record_whole : (input : List ℕ) → 2 ≤ length input → known_mark (mark_of input) ≡ true → record_length input ≤ length input
-    → Whole (mark_of input) (get_or input 2 0) (get_or input 3 0) (get_or input 4 0) (get_or input 5 0) ≡ record_of input
-unfolding record_of
-record_whole [] h m s = absurd (omega arith)
-record_whole (x ∷ []) h m s = absurd (omega arith)
-record_whole (x ∷ y ∷ l) h m s = rw (m, le-ltb (length (x ∷ y ∷ l)) (record_length (x ∷ y ∷ l)) s)
+  pub record_whole : (input : List ℕ) → 2 ≤ length input → mark_of input ≡ Some mark → record_length input ≤ length input
+      → Ok (Some (head_of mark input)) ≡ record_of input
+  unfolding record_of
+  record_whole [] h m s = absurd (omega arith)
+  record_whole (x ∷ []) h m s = absurd (omega arith)
+  record_whole (x ∷ y ∷ l) h m s = rw (m, le-ltb (length (x ∷ y ∷ l)) (record_length (x ∷ y ∷ l)) s)
 
 -- ---- read back from what it is
 
 -- a damaged record is cut short, or has no known mark
 abbrev pub DamagedBy : List ℕ → Refusal → Type 0
-DamagedBy input refusal = ((refusal ≡ Short) × (length input < record_length input)) ⊎ ((refusal ≡ Mark) × (2 ≤ length input) × (known_mark (mark_of input) ≡ false))
+DamagedBy input refusal = ((refusal ≡ Short) × (length input < record_length input)) ⊎ ((refusal ≡ Mark) × (2 ≤ length input) × (mark_of input ≡ None))
 
 -- what each answer tells of the input; a whole record has a known mark, and stands inside
-abbrev Told : List ℕ → Record → Type 0
-Told input End = input ≡ []
-Told input (Damaged refusal) = DamagedBy input refusal
-Told input (Whole mark rows columns row column) = (known_mark (mark_of input) ≡ true) × (record_length input ≤ length input)
+abbrev Told : List ℕ → Result (Option Head) Refusal → Type 0
+Told input (Ok None) = input ≡ []
+Told input (Err refusal) = DamagedBy input refusal
+Told input (Ok (Some head)) = (mark_of input ≡ Some head.mark) × (record_length input ≤ length input)
 
 told : (input : List ℕ) → Told input (record_of input)
 told [] = rw (sym (record_none [] refl)) refl
 told (x ∷ []) = rw (sym (record_lone (x ∷ []) (λ h. omega arith) (omega arith))) (inl (refl, omega (arith, six_or_more (x ∷ []))))
-told (x ∷ y ∷ l) = go (decided (known_mark (board_mark x y))) (dec_lt (length (x ∷ y ∷ l)) (record_length (x ∷ y ∷ l)))
+told (x ∷ y ∷ l) = go (board_mark x y) refl (dec_lt (length (x ∷ y ∷ l)) (record_length (x ∷ y ∷ l)))
   where
     two : 2 ≤ length (x ∷ y ∷ l)
     two = omega arith
 
-    go : Decided (known_mark (board_mark x y)) → Dec (length (x ∷ y ∷ l) < record_length (x ∷ y ∷ l)) → Told (x ∷ y ∷ l) (record_of (x ∷ y ∷ l))
-    go (inr m) s = rw (sym (record_unknown (x ∷ y ∷ l) two m)) (inr (refl, two, m))
-    go (inl m) (yes s) = rw (sym (record_short (x ∷ y ∷ l) two m s)) (inl (refl, s))
-    go (inl m) (no s) = rw (sym (record_whole (x ∷ y ∷ l) two m (omega arith))) (m, omega arith)
+    go : (m : Option BoardMark) → board_mark x y ≡ m → Dec (length (x ∷ y ∷ l) < record_length (x ∷ y ∷ l)) → Told (x ∷ y ∷ l) (record_of (x ∷ y ∷ l))
+    go None m s = rw (sym (record_unknown (x ∷ y ∷ l) two m)) (inr (refl, two, m))
+    go (Some mark) m (yes s) = rw (sym (record_short mark (x ∷ y ∷ l) two m s)) (inl (refl, s))
+    go (Some mark) m (no s) = rw (sym (record_whole mark (x ∷ y ∷ l) two m (omega arith))) (m, omega arith)
 
 module _ (input : List ℕ) where
-  pub end_nothing : record_of input ≡ End → input ≡ []
+  pub end_nothing : record_of input ≡ Ok None → input ≡ []
   end_nothing is = rw is at (told input)
 
-  pub damaged_kinds : (refusal : Refusal) → record_of input ≡ Damaged refusal → DamagedBy input refusal
+  pub damaged_kinds : (refusal : Refusal) → record_of input ≡ Err refusal → DamagedBy input refusal
   damaged_kinds refusal is = rw is at (told input)
 
-  pub whole_known : (mark : BoardMark) (rows columns row column : ℕ) → record_of input ≡ Whole mark rows columns row column
-      → (known_mark (mark_of input) ≡ true) × (record_length input ≤ length input)
-  whole_known mark rows columns row column is = rw is at (told input)
+  pub whole_known : (head : Head) → record_of input ≡ Ok (Some head) → (mark_of input ≡ Some head.mark) × (record_length input ≤ length input)
+  whole_known head is = rw is at (told input)
 
-  pub whole_inside : (mark : BoardMark) (rows columns row column : ℕ) → record_of input ≡ Whole mark rows columns row column → record_length input ≤ length input
-  whole_inside mark rows columns row column is = (whole_known mark rows columns row column is).1
+  pub whole_inside : (head : Head) → record_of input ≡ Ok (Some head) → record_length input ≤ length input
+  whole_inside head is = (whole_known head is).1
 
 -- ---- a part of the input, and the same part with more behind it
 
@@ -166,17 +165,18 @@ module _ (input rest : List ℕ) where
       (take-append-le (record_length input - 6) (drop 6 input) rest (omega (arith, length-drop 6 input)))
 
   -- a whole record
-  pub whole_beside : (mark : BoardMark) (rows columns row column : ℕ) → record_of input ≡ Whole mark rows columns row column → Beside input (input ++ rest)
-  whole_beside mark rows columns row column is = record {
+  pub whole_beside : (head : Head) → record_of input ≡ Ok (Some head) → Beside input (input ++ rest)
+  whole_beside head is = record {
     same_length = same_length;
     same_record =
-        sym (record_whole (input ++ rest) (omega (arith, six, longer)) (rw same known.0) (omega (arith, same_length, known.1, longer)))
-        ∙ rw (same, at 2 (omega (arith, six)), at 3 (omega (arith, six)), at 4 (omega (arith, six)), at 5 (omega (arith, six))) (record_whole input (omega (arith, six)) known.0 known.1);
+        sym (record_whole head.mark (input ++ rest) (omega (arith, six, longer)) (same ∙ known.0) (omega (arith, same_length, known.1, longer)))
+        ∙ rw (at 2 (omega (arith, six)), at 3 (omega (arith, six)), at 4 (omega (arith, six)), at 5 (omega (arith, six)))
+        (record_whole head.mark input (omega (arith, six)) known.0 known.1);
     same_cells = cells_beside known.1;
   }
     where
-      known : (known_mark (mark_of input) ≡ true) × (record_length input ≤ length input)
-      known = whole_known input mark rows columns row column is
+      known : (mark_of input ≡ Some head.mark) × (record_length input ≤ length input)
+      known = whole_known input head is
 
       six : 6 ≤ length input
       six = omega (arith, six_or_more input, known.1)
@@ -188,9 +188,9 @@ module _ (input rest : List ℕ) where
       same_length = length_beside six
 
   -- an unknown mark
-  pub mark_beside : record_of input ≡ Damaged Mark → record_of (input ++ rest) ≡ Damaged Mark
+  pub mark_beside : record_of input ≡ Err Mark → record_of (input ++ rest) ≡ Err Mark
   mark_beside is = go (damaged_kinds input Mark is)
     where
-      go : DamagedBy input Mark → record_of (input ++ rest) ≡ Damaged Mark
-      go (inl (e, _)) = let z : ◌≡◌ {A = ℕ} 0 1 = cc in absurd (omega arith)
-      go (inr (_, h, m)) = sym (record_unknown (input ++ rest) (omega (arith, h, longer)) (rw (same_mark h) m))
+      go : DamagedBy input Mark → record_of (input ++ rest) ≡ Err Mark
+      go (inl (e, _)) = absurd (cc)
+      go (inr (_, h, m)) = sym (record_unknown (input ++ rest) (omega (arith, h, longer)) (same_mark h ∙ m))

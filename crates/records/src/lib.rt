@@ -3,31 +3,27 @@
 #![tactic(auto)]
 
 ghost use Rattle.std.specs.Prelude.{◌≡◌, ◌≤◌};
-ghost use Rattle.records.specs.Records.{record_length, board_mark, known_mark, record_of};
+ghost use Rattle.records.specs.Records.{record_length, board_mark, record_of};
 
-use grid::window::wide_byte;
 use refusals::Refusal;
 
-// What the first two bytes of a record mark: a case for each mark that is known, and one for all others.
-#[derive(Clone, Copy)]
+// The marks that are known.
+#[derive(Clone, Copy, PartialEq, Eq)]
 pub enum BoardMark {
     // 4D 42: a plain board.
     Plain,
     // 4D 43: a board that shows its mine total.
     Total,
-    // No mark that is known.
-    Unknown,
 }
 
-// What a part of the input is that begins where a record should.
+// The head of a record: its mark, the sides of its board, and its start.
 #[derive(Clone, Copy)]
-pub enum Record {
-    // Nothing: the input has ended.
-    End,
-    // No known mark, or too short: the run ends after its line.
-    Damaged(Refusal),
-    // A whole record: its mark, rows, columns, start row, start column.
-    Whole(BoardMark, usize, usize, usize, usize),
+pub struct Head {
+    pub mark: BoardMark,
+    pub rows: usize,
+    pub columns: usize,
+    pub row: usize,
+    pub column: usize,
 }
 
 // How many bytes a record has in all, by its first six; six where there are fewer.
@@ -38,58 +34,42 @@ pub fn record_length(head: &[u8]) -> usize
     if head.len() < 6 {
         return 6;
     }
-    6 + wide_byte(head[2]) * wide_byte(head[3])
+    6 + usize::from(head[2]) * usize::from(head[3])
 }
 
-// The mark that two bytes are.
-pub fn board_mark(first: u8, second: u8) -> BoardMark
+// The mark that two bytes are, if it is known.
+pub fn board_mark(first: u8, second: u8) -> Option<BoardMark>
     ensures { result ≡ board_mark first second }
 {
-    if first != 77 {
-        return BoardMark::Unknown;
-    }
-    if second == 66 {
-        return BoardMark::Plain;
-    }
-    if second == 67 {
-        return BoardMark::Total;
-    }
-    BoardMark::Unknown
-}
-
-// Is it a known mark?
-fn is_known(mark: BoardMark) -> bool
-    ensures { result ≡ known_mark mark }
-{
-    match mark {
-        BoardMark::Plain => true,
-        BoardMark::Total => true,
-        BoardMark::Unknown => false,
+    match (first, second) {
+        (b'M', b'B') => Some(BoardMark::Plain),
+        (b'M', b'C') => Some(BoardMark::Total),
+        _ => None,
     }
 }
 
-// Reads a record. The mark comes first: two bytes that are no mark are refusal 10, whatever follows.
-pub fn read_record(input: &[u8]) -> Record
+// Reads the record at the front of a part of the input: none where the input has ended. The mark comes first: two bytes that are no known mark are refusal 10, whatever
+// follows; an input that ends inside a record is refusal 11.
+pub fn read_record(input: &[u8]) -> Result<Option<Head>, Refusal>
     ensures { result ≡ record_of input.now }
 {
-    if input.len() == 0 {
-        return Record::End;
+    if input.is_empty() {
+        return Ok(None);
     }
     if input.len() < 2 {
-        return Record::Damaged(Refusal::Short);
+        return Err(Refusal::Short);
     }
-    let mark = board_mark(input[0], input[1]);
-    if !is_known(mark) {
-        return Record::Damaged(Refusal::Mark);
-    }
+    let Some(mark) = board_mark(input[0], input[1]) else {
+        return Err(Refusal::Mark);
+    };
     if input.len() < record_length(input) {
-        return Record::Damaged(Refusal::Short);
+        return Err(Refusal::Short);
     }
-    Record::Whole(
+    Ok(Some(Head {
         mark,
-        wide_byte(input[2]),
-        wide_byte(input[3]),
-        wide_byte(input[4]),
-        wide_byte(input[5]),
-    )
+        rows: usize::from(input[2]),
+        columns: usize::from(input[3]),
+        row: usize::from(input[4]),
+        column: usize::from(input[5]),
+    }))
 }

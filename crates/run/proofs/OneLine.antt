@@ -6,11 +6,11 @@ use mathlib.Core.List.{List, [], ◌∷◌, ◌++◌, append-nil}
 use Prim.Native.Nat.{ℕ, ◌+◌, ◌≤◌, ◌<◌}
 use native.Mathlib.Omega.{arith}
 use lib.ListN.{length, drop}
+use Rattle.std.specs.Prelude.{None, Some, Ok, Err}
 use Rattle.refusals.specs.declared.Refusal.{Refusal}
 use Rattle.verdict.specs.declared.Verdict.{Verdict}
 use Rattle.verdict.specs.declared.Verdict.TheVariants.{Refused}
-use Rattle.records.specs.declared.BoardMark.{BoardMark}
-use Rattle.records.specs.declared.Record.TheVariants.{End, Damaged, Whole}
+use Rattle.records.specs.declared.Head.{Head}
 use Rattle.records.specs.Records.{record_length, record_of, cells_in}
 use Rattle.record_lines.specs.Answers.{board_verdict, line_text}
 use Rattle.records.proofs.RecordKinds.{six_or_more, end_nothing, whole_inside}
@@ -54,19 +54,19 @@ module _ (input : List ℕ) (ended : Bool) (number : ℕ) (out : List ℕ) where
     written_within = omega arith;
     text = λ rest f. refl;
     counted = λ rest f. sym (tally_left _);
-    complete = λ is. let z : ◌≡◌ {A = ℕ} 0 1 = cc in absurd (omega arith);
-    stopped = λ refusal is. let z : ◌≡◌ {A = ℕ} 0 1 = cc in absurd (omega arith);
+    complete = λ is. absurd (cc);
+    stopped = λ refusal is. absurd (cc);
   }
 
   -- the input has ended, and nothing is left of it
-  pub end_answers : 0 < number → ended ≡ true → record_of input ≡ End → input ≡ [] → Answers input ended number (nothing_yet number Complete) out
+  pub end_answers : 0 < number → ended ≡ true → record_of input ≡ Ok None → input ≡ [] → Answers input ended number (nothing_yet number Complete) out
   end_answers h e is none = record {
     read_within = omega arith;
     written_within = omega arith;
     text = λ rest f. rw (f e, append-nil input, verdicts_end input is) (text_none number h);
     counted = λ rest f. rw (f e, append-nil input, verdicts_end input is) refl;
     complete = λ _. none;
-    stopped = λ refusal is. let z : ◌≡◌ {A = ℕ} 0 1 = cc in absurd (omega arith);
+    stopped = λ refusal is. absurd (cc);
   }
 
 -- a part with nothing counted or one verdict
@@ -78,12 +78,12 @@ module _ (input : List ℕ) (ended : Bool) (number : ℕ) (r : Part) (out : List
     written_within = rw a.is at a.within;
     text = λ rest f. text_header _ ∙ ap (◌++ text_from 1 (verdicts (input ++ rest))) (sym (rw a.is at a.stands));
     counted = λ rest f. sym (tally_left _);
-    complete = λ is. let z : ◌≡◌ {A = ℕ} 0 1 = cc in absurd (omega arith);
-    stopped = λ refusal is. let z : ◌≡◌ {A = ℕ} 0 1 = cc in absurd (omega arith);
+    complete = λ is. absurd (cc);
+    stopped = λ refusal is. absurd (cc);
   })
 
   -- a damaged record is the last, whatever follows
-  pub last_answers : 0 < number → (refusal : Refusal) → record_of input ≡ Damaged refusal
+  pub last_answers : 0 < number → (refusal : Refusal) → record_of input ≡ Err refusal
       → ((rest : List ℕ) → Follows ended rest → verdicts (input ++ rest) ≡ Refused refusal ∷ [])
       → AtFront (line_text number (Refused refusal)) (line_part number (Refused refusal) 0 (Stopped refusal)) r out → Answers input ended number r out
   last_answers h refusal is last a = rw a.is (record {
@@ -95,23 +95,23 @@ module _ (input : List ℕ) (ended : Bool) (number : ℕ) (r : Part) (out : List
         ∙ ap (line_text number (Refused refusal) ++◌) (text_none (number + 1) (omega arith))
         ∙ ap (◌++ []) (sym (rw a.is at a.stands)));
     counted = λ rest f. rw (last rest f) refl;
-    complete = λ is. let z : ◌≡◌ {A = ℕ} 0 1 = cc in absurd (omega arith);
+    complete = λ is. absurd (cc);
     stopped = λ other same. let e : refusal ≡ other = cc in rw (sym e) is;
   })
 
   -- a whole record
-  pub next_answers : 0 < number → (mark : BoardMark) (rows columns row column : ℕ) → record_of input ≡ Whole mark rows columns row column
-      → (v : Verdict) → v ≡ board_verdict mark rows columns row column (cells_in input)
+  pub next_answers : 0 < number → (head : Head) → record_of input ≡ Ok (Some head)
+      → (v : Verdict) → v ≡ board_verdict head (cells_in input)
       → AtFront (line_text number v) (line_part number v (record_length input) GoesOn) r out → Answers input ended number r out
-  next_answers h mark rows columns row column is v judged a = rw a.is (record {
-    read_within = whole_inside input mark rows columns row column is;
+  next_answers h head is v judged a = rw a.is (record {
+    read_within = whole_inside input head is;
     written_within = rw a.is at a.within;
     text = λ rest f.
-        rw (verdicts_whole input rest mark rows columns row column is, sym judged)
+        rw (verdicts_whole input rest head is, sym judged)
         (text_line number v _ h ∙ ap (◌++ text_from (number + 1) (verdicts (drop (record_length input) input ++ rest))) (sym (rw a.is at a.stands)));
-    counted = λ rest f. rw (verdicts_whole input rest mark rows columns row column is, sym judged) refl;
-    complete = λ is. let z : ◌≡◌ {A = ℕ} 0 1 = cc in absurd (omega arith);
-    stopped = λ refusal is. let z : ◌≡◌ {A = ℕ} 0 1 = cc in absurd (omega arith);
+    counted = λ rest f. rw (verdicts_whole input rest head is, sym judged) refl;
+    complete = λ is. absurd (cc);
+    stopped = λ refusal is. absurd (cc);
   })
 
 -- ---- the ways through the step: `before` and `after` are the buffer, r is the part
@@ -152,7 +152,7 @@ module _ (input : List ℕ) (ended : Bool) (number : ℕ) (r : Part) (before aft
           few = record { yes = omega arith; no = omega arith; refused = omega arith };
           lines_short = λ _. omega arith;
           numbers_near = λ _. omega arith;
-          waits = λ _ _ on _. let z : ◌≡◌ {A = ℕ} 0 1 = cc in absurd (omega arith);
+          waits = λ _ _ on _. absurd (cc);
         },
       )
 
@@ -173,9 +173,9 @@ module _ (input : List ℕ) (ended : Bool) (number : ℕ) (r : Part) (before aft
         last_answers input ended number r after h refusal known.0 known.1 a,
         rw a.is (record {
           few = few_line (Refused refusal) 0 (Stopped refusal);
-          lines_short = λ on. let z : ◌≡◌ {A = ℕ} 0 1 = cc in absurd (omega arith);
-          numbers_near = λ on. let z : ◌≡◌ {A = ℕ} 0 1 = cc in absurd (omega arith);
-          waits = λ _ _ on _. let z : ◌≡◌ {A = ℕ} 0 1 = cc in absurd (omega arith);
+          lines_short = λ on. absurd (cc);
+          numbers_near = λ on. absurd (cc);
+          waits = λ _ _ on _. absurd (cc);
         }),
       )
 
@@ -184,7 +184,7 @@ module _ (input : List ℕ) (ended : Bool) (number : ℕ) (r : Part) (before aft
   next_done h v size next a =
       let known = board_judged input ended v size next in
       let six : 6 ≤ size = omega (arith, known.whole, six_or_more input) in (
-        next_answers input ended number r after h known.mark known.rows known.columns known.row known.column known.is v known.judged
+        next_answers input ended number r after h known.head known.is v known.judged
             (rw known.whole at a),
         rw a.is (record {
           few = few_line v size GoesOn;

@@ -6,11 +6,11 @@ use Prim.Native.Nat.{ℕ, zero, suc, ◌-◌, ◌≤◌}
 use native.Mathlib.Omega.{arith}
 use lib.ListN.{length, drop, length-drop}
 use lib.Seq.{drop-append-le}
+use Rattle.std.specs.Prelude.{None, Some, Ok, Err}
 use Rattle.refusals.specs.declared.Refusal.{Refusal}
 use Rattle.refusals.specs.declared.Refusal.TheVariants.{Mark}
 use Rattle.verdict.specs.declared.Verdict.TheVariants.{Refused}
-use Rattle.records.specs.declared.BoardMark.{BoardMark}
-use Rattle.records.specs.declared.Record.TheVariants.{End, Damaged, Whole}
+use Rattle.records.specs.declared.Head.{Head}
 use Rattle.records.specs.Records.{record_length, record_of, cells_in}
 use Rattle.record_lines.specs.Answers.{board_verdict}
 use Rattle.records.proofs.RecordKinds.{six_or_more, whole_inside, whole_beside, mark_beside}
@@ -50,25 +50,25 @@ verdicts_step (x ∷ l) =
 
 module _ (input rest : List ℕ) where
   -- a whole record: its own verdict, and the verdicts of what follows it
-  pub verdicts_whole : (mark : BoardMark) (rows columns row column : ℕ) → record_of input ≡ Whole mark rows columns row column
-      → verdicts (input ++ rest) ≡ board_verdict mark rows columns row column (cells_in input) ∷ verdicts (drop (record_length input) input ++ rest)
-  verdicts_whole mark rows columns row column is =
-      let beside = whole_beside input rest mark rows columns row column is in
+  pub verdicts_whole : (head : Head) → record_of input ≡ Ok (Some head)
+      → verdicts (input ++ rest) ≡ board_verdict head (cells_in input) ∷ verdicts (drop (record_length input) input ++ rest)
+  verdicts_whole head is =
+      let beside = whole_beside input rest head is in
       verdicts_step (input ++ rest)
       ∙ rw (
         beside.same_record ∙ is,
         beside.same_cells,
         beside.same_length,
-        drop-append-le (record_length input) input rest (whole_inside input mark rows columns row column is),
+        drop-append-le (record_length input) input rest (whole_inside input head is),
       )
 
   -- an unknown mark is the last
-  pub verdicts_mark : record_of input ≡ Damaged Mark → verdicts (input ++ rest) ≡ Refused Mark ∷ []
+  pub verdicts_mark : record_of input ≡ Err Mark → verdicts (input ++ rest) ≡ Refused Mark ∷ []
   verdicts_mark is = verdicts_step (input ++ rest) ∙ rw (mark_beside input rest is)
 
 -- where nothing follows, so is every damaged record
-pub verdicts_damaged : (input : List ℕ) (refusal : Refusal) → record_of input ≡ Damaged refusal → verdicts input ≡ Refused refusal ∷ []
+pub verdicts_damaged : (input : List ℕ) (refusal : Refusal) → record_of input ≡ Err refusal → verdicts input ≡ Refused refusal ∷ []
 verdicts_damaged input refusal is = verdicts_step input ∙ rw is
 
-pub verdicts_end : (input : List ℕ) → record_of input ≡ End → verdicts input ≡ []
+pub verdicts_end : (input : List ℕ) → record_of input ≡ Ok None → verdicts input ≡ []
 verdicts_end input is = verdicts_step input ∙ rw is

@@ -1,9 +1,9 @@
 -- What a part of the input is answered by, wherever the input is cut: the text written and the text of what is left are together the text of the whole, whatever follows the
 -- part. Assumes nothing.
-use Rattle.std.specs.Prelude.{◌≡◌, ◌⊎◌, Bool, true, false, cond, List, [], ◌++◌, ℕ, ◌+◌, ◌≤◌, ◌<◌, min, length, take, drop}
+use Rattle.std.specs.Prelude.{Err, ◌≡◌, ◌⊎◌, Bool, true, false, cond, List, [], ◌++◌, ℕ, ◌+◌, ◌≤◌, ◌<◌, min, length, take, drop}
 use Rattle.refusals.specs.declared.Refusal.{Refusal}
-use Rattle.records.specs.declared.Record.TheVariants.{Damaged}
 use Rattle.records.specs.Records.{record_of}
+use Rattle.run.specs.declared.Tally.{Tally}
 use Rattle.run.specs.declared.RunState.{RunState}
 use Rattle.run.specs.declared.RunState.TheVariants.{GoesOn, Complete, Stopped}
 use Rattle.run.specs.declared.Part.{Part}
@@ -34,7 +34,7 @@ pub record Answers (input : List ℕ) (ended : Bool) (number : ℕ) (r : Part) (
   -- a run that is complete has read all
   pub complete : r.state ≡ Complete → drop r.read input ≡ []
   -- one that stops has read all up to the damaged record
-  pub stopped : (refusal : Refusal) → r.state ≡ Stopped refusal → record_of (drop r.read input) ≡ Damaged refusal
+  pub stopped : (refusal : Refusal) → r.state ≡ Stopped refusal → record_of (drop r.read input) ≡ Err refusal
 
 -- where the input has ended, or has room for any record, some of it is read while the run goes on
 abbrev pub Progress : List ℕ → Bool → ℕ → List ℕ → Part → Type 0
@@ -51,15 +51,15 @@ new_run = record { next = 0; read = 0; tally = no_tally; state = GoesOn }
 abbrev pub capped_sum : ℕ → ℕ → ℕ
 capped_sum a b = min (a + b) 18446744073709551615
 
+-- verdicts counted, and more of them
+abbrev pub capped_tally : Tally → Tally → Tally
+capped_tally a b = record { yes = capped_sum a.yes b.yes; no = capped_sum a.no b.no; refused = capped_sum a.refused b.refused }
+
 -- a run after a part of its input: the part's next line and state, and what was read and counted before with what is read and counted now
 abbrev pub run_after : Run → Part → Run
 run_after run part = record {
   next = part.next;
   read = capped_sum run.read part.read;
-  tally = record {
-    yes = capped_sum run.tally.yes part.tally.yes;
-    no = capped_sum run.tally.no part.tally.no;
-    refused = capped_sum run.tally.refused part.tally.refused;
-  };
+  tally = capped_tally run.tally part.tally;
   state = part.state;
 }

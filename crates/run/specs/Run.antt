@@ -1,12 +1,12 @@
 -- The run of the program (SPECIFICATION 5.2, 5.3): the whole output of the whole input. The verdicts of the input's records, one after the other; a header, and a
 -- line for each verdict, numbered from 1; and how many of them say yes, say no and refuse. Assumes nothing.
-use Rattle.std.specs.Prelude.{not, cond, List, [], ◌∷◌, ◌++◌, ℕ, zero, suc, ◌+◌, eqb, length, drop}
+use Rattle.std.specs.Prelude.{Option, None, Some, Result, Ok, Err, not, cond, List, [], ◌∷◌, ◌++◌, ℕ, zero, suc, ◌+◌, eqb, length, drop}
 use Rattle.lists.specs.Lists.{bit}
+use Rattle.refusals.specs.declared.Refusal.{Refusal}
 use Rattle.verdict.specs.declared.Verdict.{Verdict}
 use Rattle.verdict.specs.declared.Verdict.TheVariants.{Refused}
 use Rattle.verdict.specs.Verdict.{verdict_number, verdict_yes}
-use Rattle.records.specs.declared.Record.{Record}
-use Rattle.records.specs.declared.Record.TheVariants.{End, Damaged, Whole}
+use Rattle.records.specs.declared.Head.{Head}
 use Rattle.records.specs.Records.{record_length, record_of, cells_in}
 use Rattle.record_lines.specs.Answers.{board_verdict, line_text}
 use Rattle.run.specs.declared.Tally.{Tally}
@@ -14,10 +14,10 @@ use Rattle.run.specs.declared.Tally.{Tally}
 -- ---- the verdicts of an input
 
 -- by what stands at the front: nothing where the input has ended; a damaged record, refused with 10 or 11, is the last; a whole one is followed by the others
-abbrev pub verdicts_after : Record → List ℕ → List Verdict → List Verdict
-verdicts_after End input others = []
-verdicts_after (Damaged refusal) input others = Refused refusal ∷ []
-verdicts_after (Whole mark rows columns row column) input others = board_verdict mark rows columns row column (cells_in input) ∷ others
+abbrev pub verdicts_after : Result (Option Head) Refusal → List ℕ → List Verdict → List Verdict
+verdicts_after (Ok None) input others = []
+verdicts_after (Err refusal) input others = Refused refusal ∷ []
+verdicts_after (Ok (Some head)) input others = board_verdict head (cells_in input) ∷ others
 
 -- of at most k records; the next one begins as many bytes on as a record has in all, refused or not
 abbrev pub verdicts_of : ℕ → List ℕ → List Verdict

@@ -1,10 +1,9 @@
 -- Cited by no public contract. What the functions that answer one record are told and tell. Assumes nothing.
-use Rattle.std.specs.Prelude.{◌≡◌, Bool, true, false, cond, List, ℕ, ◌+◌, ◌-◌, ◌*◌, ◌≤◌, ◌<◌, max, eqb, ltb, length, take}
+use Rattle.std.specs.Prelude.{Option, None, Some, Result, Ok, Err, ◌≡◌, Bool, true, false, cond, List, ℕ, ◌+◌, ◌-◌, ◌*◌, ◌≤◌, ◌<◌, max, eqb, ltb, length, take}
 use Rattle.refusals.specs.declared.Refusal.{Refusal}
 use Rattle.refusals.specs.Refusals.{refusal_number}
 use Rattle.verdict.specs.declared.Verdict.{Verdict}
-use Rattle.records.specs.declared.Record.{Record}
-use Rattle.records.specs.declared.Record.TheVariants.{End, Damaged, Whole}
+use Rattle.records.specs.declared.Head.{Head}
 use Rattle.records.specs.Records.{record_length, record_of, cells_in}
 use Rattle.record_lines.specs.Answers.{board_verdict, line_text}
 use Rattle.run.specs.declared.RunState.{RunState}
@@ -24,10 +23,10 @@ next_after_end ended = cond ended Ended Waits
 abbrev pub next_after_damage : Refusal → Bool → Next
 next_after_damage refusal ended = cond ended (Damage refusal) (cond (eqb (refusal_number refusal) 11) Waits (Damage refusal))
 
-abbrev pub next_after : Record → Bool → List ℕ → Next
-next_after End ended input = next_after_end ended
-next_after (Damaged refusal) ended input = next_after_damage refusal ended
-next_after (Whole mark rows columns row column) ended input = Board (board_verdict mark rows columns row column (cells_in input)) (record_length input)
+abbrev pub next_after : Result (Option Head) Refusal → Bool → List ℕ → Next
+next_after (Ok None) ended input = next_after_end ended
+next_after (Err refusal) ended input = next_after_damage refusal ended
+next_after (Ok (Some head)) ended input = Board (board_verdict head (cells_in input)) (record_length input)
 
 unfoldable pub next_of : Bool → List ℕ → Next
 next_of ended input = next_after (record_of input) ended input

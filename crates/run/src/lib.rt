@@ -6,11 +6,11 @@
 ghost use Rattle.std.specs.Prelude.{◌≡◌, ◌+◌, ◌-◌, ◌≤◌, ◌<◌, length, take, drop};
 ghost use Rattle.record_lines.specs.Answers.{line_text};
 ghost use Rattle.run.specs.Run.{header, tally_of};
-ghost use Rattle.run.specs.Parts.{goes_on, Answers, Progress, new_run, capped_sum, run_after};
+ghost use Rattle.run.specs.Parts.{goes_on, Answers, Progress, new_run, capped_tally, run_after};
 ghost use Rattle.run.specs.Steps.{next_after_end, next_after_damage, next_of, nothing_yet, header_part, line_part, part_sum, AtFront, Few, Step, another};
 
 use record_lines::{board_verdict, put_line};
-use records::{Record, read_record, record_length};
+use records::{read_record, record_length};
 use refusals::Refusal;
 use text::Text;
 use verdict::Verdict;
@@ -21,6 +21,26 @@ pub struct Tally {
     pub yes: usize,
     pub no: usize,
     pub refused: usize,
+}
+
+// No verdict is counted.
+const NO_TALLY: Tally = Tally {
+    yes: 0,
+    no: 0,
+    refused: 0,
+};
+
+impl Tally {
+    // With the verdicts of another tally, each count as far as a number goes.
+    fn plus(self, more: Tally) -> Tally
+        ensures { result ≡ capped_tally self more }
+    {
+        Tally {
+            yes: self.yes.saturating_add(more.yes),
+            no: self.no.saturating_add(more.no),
+            refused: self.refused.saturating_add(more.refused),
+        }
+    }
 }
 
 // Whether the run goes on after a part of the input, has come to the input's end, or stops at a damaged record.
@@ -89,11 +109,11 @@ fn next_verdict(input: &[u8], ended: bool) -> Next
     ensures { result ≡ next_of ended input.now }
 {
     match read_record(input) {
-        Record::End => next_after_end(ended),
-        Record::Damaged(refusal) => next_after_damage(refusal, ended),
-        Record::Whole(mark, rows, columns, row, column) => {
+        Ok(None) => next_after_end(ended),
+        Err(refusal) => next_after_damage(refusal, ended),
+        Ok(Some(head)) => {
             let end = record_length(input);
-            let verdict = board_verdict(mark, rows, columns, row, column, &input[6..end]);
+            let verdict = board_verdict(head, &input[6..end]);
             Next::Board(verdict, end)
         }
     }
@@ -107,11 +127,7 @@ fn nothing_yet(number: usize, state: RunState) -> Part
         read: 0,
         len: 0,
         next: number,
-        tally: Tally {
-            yes: 0,
-            no: 0,
-            refused: 0,
-        },
+        tally: NO_TALLY,
         state,
     }
 }
@@ -122,23 +138,11 @@ fn tally_of(verdict: Verdict) -> Tally
 {
     match verdict {
         Verdict::Refused(_) => Tally {
-            yes: 0,
-            no: 0,
             refused: 1,
+            ..NO_TALLY
         },
-        Verdict::Judged(answer, _, _, _) => if answer {
-            Tally {
-                yes: 1,
-                no: 0,
-                refused: 0,
-            }
-        } else {
-            Tally {
-                yes: 0,
-                no: 1,
-                refused: 0,
-            }
-        },
+        Verdict::Judged(true, _, _, _) => Tally { yes: 1, ..NO_TALLY },
+        Verdict::Judged(false, _, _, _) => Tally { no: 1, ..NO_TALLY },
     }
 }
 
@@ -154,11 +158,7 @@ fn put_header(out: &mut [u8]) -> Part
         read: 0,
         len: text.len(),
         next: 1,
-        tally: Tally {
-            yes: 0,
-            no: 0,
-            refused: 0,
-        },
+        tally: NO_TALLY,
         state: RunState::GoesOn,
     }
 }
@@ -226,19 +226,12 @@ fn part_sum(first: Part, second: Part) -> Part
     requires { (first.read + second.read < 18446744073709551616) × (first.len + second.len < 18446744073709551616) × Few first × Few second }
     ensures { result ≡ part_sum first second }
 {
-    let counted = first.tally;
-    let more = second.tally;
-    let state = second.state;
     Part {
         read: first.read + second.read,
         len: first.len + second.len,
         next: second.next,
-        tally: Tally {
-            yes: counted.yes + more.yes,
-            no: counted.no + more.no,
-            refused: counted.refused + more.refused,
-        },
-        state,
+        tally: first.tally.plus(second.tally),
+        state: second.state,
     }
 }
 
@@ -246,11 +239,9 @@ fn part_sum(first: Part, second: Part) -> Part
 fn is_another(part: Part) -> bool
     ensures { result ≡ another part }
 {
-    let state = part.state;
-    match state {
+    match part.state {
         RunState::GoesOn => 0 < part.len,
-        RunState::Complete => false,
-        RunState::Stopped(_) => false,
+        RunState::Complete | RunState::Stopped(_) => false,
     }
 }
 
@@ -276,23 +267,8 @@ pub fn new_run() -> Run
     Run {
         next: 0,
         read: 0,
-        tally: Tally {
-            yes: 0,
-            no: 0,
-            refused: 0,
-        },
+        tally: NO_TALLY,
         state: RunState::GoesOn,
-    }
-}
-
-// A sum, or the largest number where it is larger.
-pub fn capped_sum(a: usize, b: usize) -> usize
-    ensures { result ≡ capped_sum a b }
-{
-    if b <= 0xffff_ffff_ffff_ffff - a {
-        a + b
-    } else {
-        0xffff_ffff_ffff_ffff
     }
 }
 
@@ -300,18 +276,11 @@ pub fn capped_sum(a: usize, b: usize) -> usize
 pub fn run_after(run: Run, part: Part) -> Run
     ensures { result ≡ run_after run part }
 {
-    let counted = run.tally;
-    let more = part.tally;
-    let state = part.state;
     Run {
         next: part.next,
-        read: capped_sum(run.read, part.read),
-        tally: Tally {
-            yes: capped_sum(counted.yes, more.yes),
-            no: capped_sum(counted.no, more.no),
-            refused: capped_sum(counted.refused, more.refused),
-        },
-        state,
+        read: run.read.saturating_add(part.read),
+        tally: run.tally.plus(part.tally),
+        state: part.state,
     }
 }
 
@@ -319,12 +288,7 @@ pub fn run_after(run: Run, part: Part) -> Run
 pub fn goes_on(run: Run) -> bool
     ensures { result ≡ goes_on run.state }
 {
-    let state = run.state;
-    match state {
-        RunState::GoesOn => true,
-        RunState::Complete => false,
-        RunState::Stopped(_) => false,
-    }
+    matches!(run.state, RunState::GoesOn)
 }
 
 // Moves the bytes that were not read, those from `read` up to `end`, to the front of the input, and says how many they are.

@@ -21,4 +21,4 @@ slice_bounds-verdict_by_mark-end-2 c =
 pub returns : goal.returns
 returns c =
     let size = c.picture_size-size.ensures in
-    verdict_of_zeros _ _ _ _ _ _ _ _ _ size.value size.upper_bound refl refl c.verdict_by_mark.ensures
+    verdict_of_zeros _ _ _ _ _ size.value size.upper_bound refl refl c.verdict_by_mark.ensures

@@ -7,6 +7,3 @@ returns-in-Plain c = rw c.in-Plain.is c.is_solvable.ensures.opened_in_after
 
 pub returns-in-Total : goal.returns-in-Total
 returns-in-Total c = rw c.in-Total.is c.is_solvable_total.ensures.opened_in_after
-
-pub returns-in-Unknown : goal.returns-in-Unknown
-returns-in-Unknown c = rw c.in-Unknown.is

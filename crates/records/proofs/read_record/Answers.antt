@@ -1,44 +1,33 @@
 -- `read_record` meets its contract: its tests go the ways of the definition, one law each. Assumes nothing.
-use mathlib.Core.Path.{◌≡◌, sym, ap, ◌∙◌}
-use mathlib.Core.Bool.{true}
-use mathlib.Core.List.{List}
-use Prim.Native.Nat.{ℕ, ◌≤◌}
+use mathlib.Core.Path.{◌≡◌, sym, ◌∙◌}
+use Prim.Native.Nat.{◌≤◌}
 use native.Mathlib.Omega.{arith}
 use lib.ListN.{length}
-use borrow.Author.Tests.{not-true, not-false}
-use Rattle.records.specs.Records.{known_mark}
+use borrow.Author.Tests.{eqb-true, eq-eqb}
+use Rattle.std.specs.Prelude.{Some}
 use Rattle.records.proofs.RecordKinds.{length_six, mark_of, record_none, record_lone, record_unknown, record_short, record_whole}
-use borrow.Author.Rules.{rules}
-use mathlib.Core.Bool.{not}
 use Rattle.records.proofs.read_record.Goals as goal
-use Rattle.records.proofs.read_record.Goals.{After-is_known, Else-input-record_length, Else-not-is_known}
-
-abbrev input : After-is_known → List ℕ
-input c = c.args.input.now
-
--- what the test of the mark tells
-told : (c : After-is_known) → known_mark (mark_of (input c)) ≡ c.is_known.result
-told c = sym (c.is_known.ensures ∙ ap known_mark c.board_mark-mark.ensures)
+use Rattle.records.proofs.read_record.Goals.{In-Some, Else-input-record_length}
 
 -- past the test of the mark it is known
-known : (c : Else-not-is_known) → known_mark (mark_of (input (goal.at.Else-not-is_known c).After-is_known)) ≡ true
-known c = told (goal.at.Else-not-is_known c).After-is_known ∙ not-false c.is_known.result (ap not c.if-not-is_known.false)
+known : (c : In-Some) → mark_of c.args.input.now ≡ Some c.in-Some.mark
+known c = sym c.board_mark.ensures ∙ c.in-Some.is
 
 -- past the test of the length the head is there
-head : (c : Else-input-record_length) → 6 ≤ length (input (goal.at.Else-input-record_length c).After-is_known)
+head : (c : Else-input-record_length) → 6 ≤ length c.args.input.now
 head c = omega (arith, length_six _ c.record_length.ensures.value, c.if-input-record_length.false)
 
-pub returns-then-input-eq0 : goal.returns-then-input-eq0
-returns-then-input-eq0 c = record_none _ c.if-input-eq0.true
+pub returns-then-is_empty : goal.returns-then-is_empty
+returns-then-is_empty c = record_none _ (eqb-true _ 0 (sym c.if-is_empty.ensures))
 
 pub returns-then-input-lt2 : goal.returns-then-input-lt2
-returns-then-input-lt2 c = record_lone _ c.if-input-eq0.false (omega arith)
+returns-then-input-lt2 c = record_lone _ (λ none. let e = eq-eqb _ 0 none in let f = c.if-is_empty.ensures in absurd (cc)) (omega arith)
 
-pub returns-then-not-is_known : goal.returns-then-not-is_known
-returns-then-not-is_known c = record_unknown _ (omega arith) (told (goal.at.returns-then-not-is_known c).After-is_known ∙ not-true c.is_known.result (ap not c.if-not-is_known.true))
+pub returns-in_default : goal.returns-in_default
+returns-in_default c = record_unknown _ (omega arith) (sym c.board_mark.ensures ∙ c.in_default.is)
 
 pub returns-then-input-record_length : goal.returns-then-input-record_length
-returns-then-input-record_length c = record_short _ (omega arith) (known (goal.at.returns-then-input-record_length c).Else-not-is_known) (omega (arith, c.record_length.ensures.value))
+returns-then-input-record_length c = record_short _ _ (omega arith) (known (goal.at.returns-then-input-record_length c).In-Some) (omega (arith, c.record_length.ensures.value))
 
 pub bounds-input-2 : goal.bounds-input-2
 bounds-input-2 c = omega (arith, head (goal.at.bounds-input-2 c).Else-input-record_length)
@@ -54,5 +43,5 @@ bounds-input-5 c = omega (arith, head (goal.at.bounds-input-5 c).Else-input-reco
 
 pub returns : goal.returns
 returns c =
-    let whole = record_whole (input (goal.at.returns c).After-is_known) (omega arith) (known (goal.at.returns c).Else-not-is_known) (omega (arith, c.if-input-record_length.false, c.record_length.ensures.value)) in
-    rw (c.board_mark-mark.ensures, c.wide_byte.ensures.0, c.wide_byte-2.ensures.0, c.wide_byte-3.ensures.0, c.wide_byte-4.ensures.0) whole
+    let whole = record_whole _ c.args.input.now (omega arith) (known (goal.at.returns c).In-Some) (omega (arith, c.if-input-record_length.false, c.record_length.ensures.value)) in
+    rw (c.from.ensures, c.from-2.ensures, c.from-3.ensures, c.from-4.ensures) whole
