@@ -1,8 +1,8 @@
 -- What becomes of a record: where it changes, the two bytes of its start become the row and the column of the first 0, which lies on the board (`start_on_board`, `start_is_first_zero`); no
 -- other byte changes (`others_kept`), and a second time changes nothing (`record_once`). What follows the record stays. Assumes nothing.
-use mathlib.Core.Path.{◌≡◌, sym, ap, ◌∙◌}
+use mathlib.Core.Path.{◌≡◌, refl, sym, ap, ◌∙◌}
 use mathlib.Core.Logic.{inl, inr, ◌≢◌}
-use mathlib.Core.Bool.{true, false, and-false}
+use mathlib.Core.Bool.{Bool, true, false, cond, and-false}
 use mathlib.Core.List.{List, ◌++◌}
 use Prim.Native.Nat.{ℕ, ◌+◌, ◌-◌, ◌*◌, ◌/◌, ◌%◌, ◌≤◌, ◌<◌, min}
 use native.Mathlib.Omega.{arith}
@@ -12,12 +12,14 @@ use lib.Dec.{ltb, eqb}
 use lib.ListN.{length, get_or, drop, set, length-set, length-take, length-drop, get_or-append}
 use lib.Seq.{length-take-le, get_or-set_same, get_or-set_other, set-append_left, set-set, set_comm, drop-set-lt}
 use borrow.Author.Tests.{eqb-true, eqb-false, ne_eqb, lt-ltb, le-ltb}
+use Rattle.std.specs.Prelude.{Some, None}
 use Rattle.lists.proofs.Tests.{Decided, decided, and_left, and_right}
 use Rattle.lists.proofs.FirstPlaces.{first_within, first_within_any, first_passes, first_before}
 use Rattle.records.specs.Records.{record_length, cells_in}
 use Rattle.records.proofs.RecordKinds.{six_or_more, length_known, length_beside, cells_beside}
 use Rattle.migration.specs.Migrated.{is_stored, is_open, has_zero, first_zero, is_changed, started_at, migrated_record}
 use Rattle.migration.specs.Parts.{counts_of}
+use Rattle.migration.specs.Steps.{zero_place}
 
 -- ---- the row and the column of a cell on a board
 
@@ -83,11 +85,21 @@ module _ (r : List ℕ) where
     unfolding is_changed
     found_is = rw start (rw long at (sym (first_within_any (λ v. eqb v 0) (cells_in r))))
 
-    pub zero_found : first_zero (cells_in r) < record_length r - 6 → is_changed r ≡ true
-    zero_found h = found_is ∙ lt-ltb (first_zero (cells_in r)) (record_length r - 6) h
+    -- as its answer tells
+    pub zero_found : (cell : ℕ) → zero_place (cells_in r) ≡ Some cell → (cell ≡ first_zero (cells_in r)) × (is_changed r ≡ true)
+    zero_found cell e = go (ltb (first_zero (cells_in r)) (length (cells_in r))) refl e
+      where
+        go : (t : Bool) → ltb (first_zero (cells_in r)) (length (cells_in r)) ≡ t → cond t (Some (first_zero (cells_in r))) None ≡ Some cell
+            → (cell ≡ first_zero (cells_in r)) × (is_changed r ≡ true)
+        go true t h = (cc, found_is ∙ (rw long at t))
+        go false t h = absurd (cc)
 
-    pub zero_missing : record_length r - 6 ≤ first_zero (cells_in r) → is_changed r ≡ false
-    zero_missing h = found_is ∙ le-ltb (first_zero (cells_in r)) (record_length r - 6) h
+    pub zero_missing : zero_place (cells_in r) ≡ None → is_changed r ≡ false
+    zero_missing e = go (ltb (first_zero (cells_in r)) (length (cells_in r))) refl e
+      where
+        go : (t : Bool) → ltb (first_zero (cells_in r)) (length (cells_in r)) ≡ t → cond t (Some (first_zero (cells_in r))) None ≡ None → is_changed r ≡ false
+        go true t h = absurd (cc)
+        go false t h = found_is ∙ (rw long at t)
 
   -- and how it counts
   pub counts_changed : {n : ℕ} → n ≡ record_length r → is_changed r ≡ true → record { records = 1; changed = 1; bytes = n } ≡ counts_of r

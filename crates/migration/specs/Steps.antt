@@ -1,8 +1,12 @@
 -- Cited by no public contract. Whole records at the front of the input carried over one after another, and whether more bytes may make a whole record of what is left. Assumes nothing.
-use Rattle.std.specs.Prelude.{◌≡◌, Bool, ◌&&◌, ◌||◌, List, ◌++◌, ℕ, ◌≤◌, eqb, length, get_or, take, drop}
+use Rattle.std.specs.Prelude.{◌≡◌, Bool, cond, Option, None, Some, ◌&&◌, ◌||◌, List, ◌++◌, ℕ, ◌≤◌, eqb, ltb, length, get_or, take, drop}
 use Rattle.migration.specs.declared.Counts.{Counts}
-use Rattle.migration.specs.Migrated.{migrated}
+use Rattle.migration.specs.Migrated.{first_zero, migrated}
 use Rattle.migration.specs.Parts.{counts_sum, counts}
+
+-- the place of the first 0 in reading order, where there is one
+abbrev pub zero_place : List ℕ → Option ℕ
+zero_place cells = cond (ltb (first_zero cells) (length cells)) (Some (first_zero cells)) None
 
 -- the mark 4D 42
 abbrev pub is_mark : ℕ → ℕ → Bool

@@ -4,9 +4,9 @@
 #![tactic(auto)]
 
 ghost use Rattle.std.specs.Prelude.{◌≡◌, true, false, not, ◌&&◌, ◌+◌, ◌*◌, ◌≤◌, ◌<◌, length, get_or, take, drop};
-ghost use Rattle.migration.specs.Migrated.{is_stored, is_open, first_zero, started_at, migrated_record};
+ghost use Rattle.migration.specs.Migrated.{is_stored, is_open, started_at, migrated_record};
 ghost use Rattle.migration.specs.Parts.{no_counts, counts_after, counts_of, Migrates, Progress};
-ghost use Rattle.migration.specs.Steps.{is_mark, may_begin, Carried};
+ghost use Rattle.migration.specs.Steps.{zero_place, is_mark, may_begin, Carried};
 
 use records::record_length;
 
@@ -26,18 +26,11 @@ pub struct Part {
     pub counts: Counts,
 }
 
-// The place of the first 0 in reading order; the number of cells where there is none.
-fn first_zero(cells: &[u8]) -> usize
-    ensures { result ≡ first_zero cells.now }
+// The place of the first 0 in reading order.
+fn first_zero(cells: &[u8]) -> Option<usize>
+    ensures { result ≡ zero_place cells.now }
 {
-    let mut c = 0;
-    while c < cells.len() {
-        if cells[c] == 0 {
-            return c;
-        }
-        c += 1;
-    }
-    c
+    cells.iter().position(|&cell| cell == 0)
 }
 
 // Are two bytes the mark 4D 42?
@@ -84,8 +77,7 @@ fn migrate_record(stored: &mut [u8]) -> Counts
 {
     let end = record_length(stored);
     if is_open(stored[4], stored[5]) {
-        let cell = first_zero(&stored[6..end]);
-        if cell < end - 6 {
+        if let Some(cell) = first_zero(&stored[6..end]) {
             start_at(stored, cell);
             return Counts {
                 records: 1,

@@ -1,22 +1,23 @@
--- `first_zero` meets its contract. The loop's invariant: the first 0 stands at c or after. Rests on the laws of such a loop over any test.
--- Assumes nothing.
-use Prim.Native.Nat.{◌-◌}
-use borrow.Author.Rules.{rules}
-use borrow.Author.Tests.{eq-eqb, ne_eqb}
+-- `first_zero` meets its contract: the first place at which the closure answers true is that of the first 0. Assumes nothing.
+use mathlib.Core.Path.{◌≡◌, refl}
+use mathlib.Core.Bool.{Bool}
+use mathlib.Core.List.{List}
+use Prim.Native.Nat.{ℕ, suc, ◌+◌}
+use native.Mathlib.Omega.{arith}
 use lib.Dec.{eqb}
-use lib.ListN.{length}
-use Rattle.lists.proofs.Loops.{FirstLeft, first_next, first_found, first_none}
+use borrow.Author.Rules.{rules}
+use borrow.Author.Tests.{tests}
+use Rattle.std.specs.List.{position_or_len}
+use Rattle.std.proofs.lemmas.List.Recursion.{is_position_or_len}
+use Rattle.std.proofs.lemmas.Iterator.{YieldsList-from_slice}
+use Rattle.std.proofs.lemmas.Iterator.Search.{position_from_yields_List}
+use Rattle.lists.specs.Lists.{first_place}
 use Rattle.migration.proofs.first_zero.Goals as goal
 
-pub returns-then-cells-c-eq0 : goal.returns-then-cells-c-eq0
-returns-then-cells-c-eq0 c =
-    let l = c.loop-c in
-    first_found (λ v. eqb v 0) _ l.c c.loop-c-test.true (eq-eqb _ _ c.if-cells-c-eq0.true) l.invariant
-
-pub loop-c-preserved : goal.loop-c-preserved
-loop-c-preserved c =
-    let l = c.loop-c in
-    first_next (λ v. eqb v 0) _ l.c c.loop-c-test.true (ne_eqb _ _ c.if-cells-c-eq0.false) l.invariant
+placed : (f : ℕ → Bool) (l : List ℕ) → first_place f l ≡ position_or_len f l
+placed f = is_position_or_len (first_place f) f refl (λ x l. let e : 1 + first_place f l ≡ suc (first_place f l) = omega arith in rw e)
 
 pub returns : goal.returns
-returns c = first_none (λ v. eqb v 0) _ c.loop-c.c c.loop-c-test.false c.loop-c.invariant
+returns c =
+    rw (placed (λ v. eqb v 0) c.args.cells.now)
+    (position_from_yields_List (λ v. eqb v 0) _ _ _ c.position.ensures.ran (YieldsList-from_slice c.args.cells.now cc) (λ x b q k. search (rules, tests)))

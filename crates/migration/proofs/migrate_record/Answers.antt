@@ -8,11 +8,12 @@ use lib.ListN.{length, get_or}
 use Rattle.records.specs.Records.{record_length, cells_in}
 use Rattle.records.proofs.RecordKinds.{length_six}
 use Rattle.migration.specs.Migrated.{is_open, first_zero, is_changed}
+use Rattle.migration.specs.Steps.{zero_place}
 use Rattle.migration.proofs.Fronts.{stored_whole, stored_six}
 use Rattle.migration.proofs.MigratedRecords.{head_there, zero_on_board, changed_is, unchanged_is, other_start, zero_found, zero_missing, counts_changed, counts_unchanged}
 use borrow.Author.Rules.{rules}
 use Rattle.migration.proofs.migrate_record.Goals as goal
-use Rattle.migration.proofs.migrate_record.Goals.{After-first_zero-cell, After-record_length-end, Then-cell-end, Then-is_open}
+use Rattle.migration.proofs.migrate_record.Goals.{After-first_zero, After-record_length-end, In-Some, Then-is_open}
 
 -- the record, as it is lent
 abbrev given : After-record_length-end → List ℕ
@@ -28,8 +29,8 @@ end_is c = c.record_length-end.ensures.value
 retired : (c : Then-is_open) → is_open (get_or (given (goal.at.Then-is_open c).After-record_length-end) 4 0) (get_or (given (goal.at.Then-is_open c).After-record_length-end) 5 0) ≡ true
 retired c = sym c.is_open.ensures ∙ c.if-is_open.true
 
-zero_is : (c : After-first_zero-cell) → c.first_zero-cell.result ≡ first_zero (cells_in (given (goal.at.After-first_zero-cell c).After-record_length-end))
-zero_is c = rw (end_is (goal.at.After-first_zero-cell c).After-record_length-end) at c.first_zero-cell.ensures
+place_is : (c : After-first_zero) → c.first_zero.result ≡ zero_place (cells_in (given (goal.at.After-first_zero c).After-record_length-end))
+place_is c = rw (end_is (goal.at.After-first_zero c).After-record_length-end) at c.first_zero.ensures
 
 pub bounds-stored-4 : goal.bounds-stored-4
 bounds-stored-4 c = omega (arith, stored_six _ c.requires)
@@ -40,24 +41,30 @@ bounds-stored-5 c = omega (arith, stored_six _ c.requires)
 pub slice_bounds-first_zero-count : goal.slice_bounds-first_zero-count
 slice_bounds-first_zero-count c = omega (arith, length_six _ (end_is (goal.at.slice_bounds-first_zero-count c).After-record_length-end))
 
-pub overflow_sub-end : goal.overflow_sub-end
-overflow_sub-end c = omega (arith, length_six _ (end_is (goal.at.overflow_sub-end c).After-record_length-end))
-
 -- past both tests the record changes
-changes : (c : Then-cell-end) → is_changed (given (goal.at.Then-cell-end c).After-record_length-end) ≡ true
-changes c =
-    zero_found _ (inside (goal.at.Then-cell-end c).After-record_length-end) (retired (goal.at.Then-cell-end c).Then-is_open) (omega (arith, c.if-cell-end.true, zero_is (goal.at.Then-cell-end c).After-first_zero-cell, end_is (goal.at.Then-cell-end c).After-record_length-end))
+found : (c : In-Some) → (c.in-Some.cell ≡ first_zero (cells_in (given (goal.at.In-Some c).After-record_length-end))) × (is_changed (given (goal.at.In-Some c).After-record_length-end) ≡ true)
+found c =
+    zero_found _ (inside (goal.at.In-Some c).After-record_length-end) (retired (goal.at.In-Some c).Then-is_open) c.in-Some.cell
+    (sym (place_is (goal.at.In-Some c).After-first_zero) ∙ c.in-Some.is)
 
 pub start_at-requires : goal.start_at-requires
 start_at-requires c =
-    let changed = changes (goal.at.start_at-requires c).Then-cell-end in
-    (head_there _ changed, rw (zero_is (goal.at.start_at-requires c).After-first_zero-cell) (zero_on_board _ changed))
+    let there = found (goal.at.start_at-requires c).In-Some in
+    (head_there _ there.1, rw there.0 (zero_on_board _ there.1))
 
-pub returns-then-cell-end : goal.returns-then-cell-end
-returns-then-cell-end c = record { value = counts_changed _ (end_is (goal.at.returns-then-cell-end c).After-record_length-end) (changes (goal.at.returns-then-cell-end c).Then-cell-end); stored_after = rw (zero_is (goal.at.returns-then-cell-end c).After-first_zero-cell) at c.start_at.ensures ∙ sym (changed_is _ (changes (goal.at.returns-then-cell-end c).Then-cell-end)) }
+pub returns-in-Some : goal.returns-in-Some
+returns-in-Some c =
+    let there = found (goal.at.returns-in-Some c).In-Some in
+    record {
+      value = counts_changed _ (end_is (goal.at.returns-in-Some c).After-record_length-end) there.1;
+      stored_after = rw there.0 at c.start_at.ensures ∙ sym (changed_is _ there.1);
+    }
 
-pub returns-else-cell-end : goal.returns-else-cell-end
-returns-else-cell-end c = let missing = zero_missing _ (inside (goal.at.returns-else-cell-end c).After-record_length-end) (retired (goal.at.returns-else-cell-end c).Then-is_open) (omega (arith, c.if-cell-end.false, zero_is (goal.at.returns-else-cell-end c).After-first_zero-cell, end_is (goal.at.returns-else-cell-end c).After-record_length-end)) in record { value = counts_unchanged _ (end_is (goal.at.returns-else-cell-end c).After-record_length-end) missing; stored_after = sym (unchanged_is _ missing) }
+pub returns-in_default : goal.returns-in_default
+returns-in_default c =
+    let record_is = (goal.at.returns-in_default c).After-record_length-end in
+    let missing = zero_missing _ (inside record_is) (retired (goal.at.returns-in_default c).Then-is_open) (sym (place_is (goal.at.returns-in_default c).After-first_zero) ∙ c.in_default.is) in
+    record { value = counts_unchanged _ (end_is record_is) missing; stored_after = sym (unchanged_is _ missing) }
 
 pub returns-else-is_open : goal.returns-else-is_open
 returns-else-is_open c = let other = other_start _ (sym c.is_open.ensures ∙ c.if-is_open.false) in record { value = counts_unchanged _ (end_is (goal.at.returns-else-is_open c).After-record_length-end) other; stored_after = sym (unchanged_is _ other) }
