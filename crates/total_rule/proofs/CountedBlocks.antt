@@ -28,6 +28,8 @@ use Rattle.frontier.specs.Frontier.{frontier, inside_cells}
 use Rattle.totals.specs.Totals.{possible_count, up_to, sums_to, mines_left, others_than, allowed_count, some_mine, some_free}
 use Rattle.totals.specs.Joining.{counts_at, counts_but, EndsInOrder, SumsAre}
 use Rattle.totals.proofs.BlockCounts.{possible_at_most}
+use Rattle.counting.specs.declared.states.Met.{Met}
+use Rattle.total_rule.specs.declared.steps.CellMarks.{CellMarks}
 use Rattle.total_rule.specs.Cells.{Copied}
 use Rattle.total_rule.specs.Blocks.{block_there, count_allowed, mine_allowed, free_allowed, any_count, TableBelow, ToldBlock, CountsHeld, CellsTold, mine_shown, free_shown, mine_stage, free_stage}
 use Rattle.total_rule.proofs.ToldBlocks.{cells_told_none, cells_told_same, cells_told_next, counts_held_none, counts_held_next}
@@ -183,18 +185,17 @@ module _ {s : BlockSet} (w : Whole s) (combinable : (b : Block) → Memᴰ b (bl
 -- ---- the loops
 
 -- the first b blocks are counted
-pub record CountedTo (s : BlockSet) (mined₀ unfilled₀ counts mined unfilled tags keys results : List ℕ) (b : ℕ) : Type 0 where
+pub record CountedTo (s : BlockSet) (start : CellMarks) (counts : List ℕ) (marks : CellMarks) (met : Met) (b : ℕ) : Type 0 where
   pub held : CountsHeld (blocks_of s) s.cell_ends counts b
-  pub mines : CellsTold (blocks_of s) b (mine_shown (blocks_of s)) mined₀ mined
-  pub frees : CellsTold (blocks_of s) b (free_shown (blocks_of s)) unfilled₀ unfilled
-  pub table : TableBelow (1 + b * 1050625) tags keys results
+  pub mines : CellsTold (blocks_of s) b (mine_shown (blocks_of s)) start.mined marks.mined
+  pub frees : CellsTold (blocks_of s) b (free_shown (blocks_of s)) start.unfilled marks.unfilled
+  pub table : TableBelow (1 + b * 1050625) met
 
-pub counted_none : (s : BlockSet) (counts mined unfilled tags keys results : List ℕ) → length counts ≡ 2048 → TableBelow 1 tags keys results
-    → CountedTo s mined unfilled counts mined unfilled tags keys results 0
-counted_none s counts mined unfilled tags keys results l t = record {
+pub counted_none : (s : BlockSet) (counts : List ℕ) (marks : CellMarks) (met : Met) → length counts ≡ 2048 → TableBelow 1 met → CountedTo s marks counts marks met 0
+counted_none s counts marks met l t = record {
   held = counts_held_none (blocks_of s) s.cell_ends counts l;
-  mines = cells_told_none (blocks_of s) (mine_shown (blocks_of s)) mined;
-  frees = cells_told_none (blocks_of s) (free_shown (blocks_of s)) unfilled;
+  mines = cells_told_none (blocks_of s) (mine_shown (blocks_of s)) marks.mined;
+  frees = cells_told_none (blocks_of s) (free_shown (blocks_of s)) marks.unfilled;
   table = t;
 }
 
@@ -204,29 +205,18 @@ Stages stages shown s inside rest told₀ told b =
     (near : ℕ → List ℕ) (p before : List ℕ) (total : ℕ) → blocks_of s ≡ frontier near p → inside ≡ inside_cells near p → rest ≡ mines_left total p
     → CellsTold (blocks_of s) (length (blocks_of s)) (shown (blocks_of s)) before told₀ → CellsTold (blocks_of s) (length (blocks_of s)) (stages near p total (blocks_of s) b) before told
 
-pub record JoinedTo (s : BlockSet) (inside rest : ℕ) (mined₀ unfilled₀ mined unfilled tags keys results : List ℕ) (b : ℕ) : Type 0 where
-  pub whole_mined : length mined ≡ 1024
-  pub whole_unfilled : length unfilled ≡ 1024
-  pub mines : Stages mine_stage mine_shown s inside rest mined₀ mined b
-  pub frees : Stages free_stage free_shown s inside rest unfilled₀ unfilled b
-  pub table : TableBelow (1 + (length (blocks_of s) + b) * 1050625) tags keys results
+pub record JoinedTo (s : BlockSet) (inside rest : ℕ) (start marks : CellMarks) (met : Met) (b : ℕ) : Type 0 where
+  pub mines : Stages mine_stage mine_shown s inside rest start.mined marks.mined b
+  pub frees : Stages free_stage free_shown s inside rest start.unfilled marks.unfilled b
+  pub table : TableBelow (1 + (length (blocks_of s) + b) * 1050625) met
 
-pub joined_none : (s : BlockSet) (inside rest : ℕ) (mined unfilled tags keys results : List ℕ) → length mined ≡ 1024 → length unfilled ≡ 1024
-    → TableBelow (1 + length (blocks_of s) * 1050625) tags keys results → JoinedTo s inside rest mined unfilled mined unfilled tags keys results 0
-joined_none s inside rest mined unfilled tags keys results l k t = record {
-  whole_mined = l;
-  whole_unfilled = k;
+pub joined_none : (s : BlockSet) (inside rest : ℕ) (marks : CellMarks) (met : Met) → TableBelow (1 + length (blocks_of s) * 1050625) met → JoinedTo s inside rest marks marks met 0
+joined_none s inside rest marks met t = record {
   mines = λ near p before total is free left told. cells_told_same told (mine_stage near p total (blocks_of s) 0) (λ j g h. rw (le-ltb j 0 (omega arith)));
   frees = λ near p before total is free left told. cells_told_same told (free_stage near p total (blocks_of s) 0) (λ j g h. rw (le-ltb j 0 (omega arith)));
   table = let same : length (blocks_of s) + 0 ≡ length (blocks_of s) = omega arith in rw same t;
 }
 
--- the same of arrays that are equal
-pub joined_same : {s : BlockSet} {inside rest : ℕ} {mined₀ unfilled₀ mined unfilled tags keys results mined' unfilled' tags' keys' results' : List ℕ} {b : ℕ}
-    → mined' ≡ mined → unfilled' ≡ unfilled → tags' ≡ tags → keys' ≡ keys → results' ≡ results
-    → JoinedTo s inside rest mined₀ unfilled₀ mined unfilled tags keys results b → JoinedTo s inside rest mined₀ unfilled₀ mined' unfilled' tags' keys' results' b
-joined_same m u t k r j = rw (m, u, t, k, r) j
-
 -- the tags of the table are below a greater number
-pub table_more : {first more : ℕ} {tags keys results : List ℕ} → TableBelow first tags keys results → first ≤ more → TableBelow more tags keys results
+pub table_more : {first more : ℕ} {met : Met} → TableBelow first met → first ≤ more → TableBelow more met
 table_more t h = record { whole = t.whole; below = λ i. omega (arith, t.below i, h) }

@@ -68,7 +68,7 @@ module _ (near : ℕ → List ℕ) (p : List ℕ) (once : (c : ℕ) → nodup (n
 
   module _ (v : Bool) (left : ℕ → Block → ℕ → Bool) (inner : Bool) (stage : ℕ → ℕ → Bool)
       (is_stage : (j g : ℕ) → j < length bs → stage j g ≡ left j (block_there bs j) g)
-      (of_block_lem : (i : ℕ) → i < length bs → (c : ℕ) → has (block_there bs i).cells c ≡ true → (left i (block_there bs i) (group_of_cell (block_there bs i) c) ≡ true) ↔ LayoutOfTotal near p total c v)
+      (of_block : (i : ℕ) → i < length bs → (c : ℕ) → has (block_there bs i).cells c ≡ true → (left i (block_there bs i) (group_of_cell (block_there bs i) c) ≡ true) ↔ LayoutOfTotal near p total c v)
       (of_inside : (c : ℕ) → is_inside near p c ≡ true → (inner ≡ true) ↔ LayoutOfTotal near p total c v)
       {before joined told : List ℕ} (twos : (c : ℕ) → c < 1024 → get_or before c 0 ≡ 2)
       (blocks : CellsTold bs (length bs) stage before joined)
@@ -96,7 +96,7 @@ module _ (near : ℕ → List ℕ) (p : List ℕ) (once : (c : ℕ) → nodup (n
         go (inr h) =
             let (j, l, m) = there_some bs c h in
             let t = left j (block_there bs j) (group_of_cell (block_there bs j) c) in
-            (t, block_keeps c t (blocks.of_block_lem j l c m ∙ ap bit (is_stage j (group_of_cell (block_there bs j) c) l)) (decided (ltb 0 (inside_cells near p))), of_block_lem j l c m)
+            (t, block_keeps c t (blocks.of_block j l c m ∙ ap bit (is_stage j (group_of_cell (block_there bs j) c) l)) (decided (ltb 0 (inside_cells near p))), of_block j l c m)
 
   -- ---- what is listed
 

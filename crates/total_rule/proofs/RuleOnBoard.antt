@@ -33,7 +33,7 @@ use Rattle.total_rule.proofs.CountedBlocks.{Stages}
 use Rattle.total_rule.proofs.FoundByTotal.{inner_sums, found_safe, found_mines}
 
 -- a table without a tag
-pub table_empty : TableBelow 1 (replicate 8192 0) (replicate 8192 0) (replicate 8192 0)
+pub table_empty : TableBelow 1 (record { tags = replicate 8192 0; keys = replicate 8192 0; results = replicate 8192 0 })
 table_empty = record {
   whole = (length-replicate {A = ℕ} 8192 0, length-replicate {A = ℕ} 8192 0, length-replicate {A = ℕ} 8192 0);
   below = replicate_all (λ i v. v < 1) 8192 0 0 (λ i h. omega arith) (λ i h. omega arith);
@@ -80,7 +80,7 @@ module _ (edgeless : Bool) (rows columns : ℕ) (p : List ℕ) (board : Board p 
 
     -- ---- as the steps leave it
 
-    module _ (set : BlockSet) (is : set ≡ block_set (frontier near p)) (inside rest : ℕ) (is_inside_lem : inside ≡ inside_cells near p) (is_rest : rest ≡ total - known_mines p)
+    module _ (set : BlockSet) (is : set ≡ block_set (frontier near p)) (inside rest : ℕ) (inside_is : inside ≡ inside_cells near p) (is_rest : rest ≡ total - known_mines p)
         {counts : List ℕ} (held : CountsHeld (blocks_of set) set.cell_ends counts (length (blocks_of set))) where
       blocks_are : blocks_of set ≡ frontier near p
       blocks_are = read_frontier edgeless rows columns p board set is
@@ -95,7 +95,7 @@ module _ (edgeless : Bool) (rows columns : ℕ) (p : List ℕ) (board : Board p 
       -- as it is defined at the position
       inner_same : (n : ℕ) → inner n ≡ inner_sums near p counts set.cell_ends n
       inner_same n =
-          ap (λ (k : ℕ). sums_to (up_to (k - 1) ∷ counts_but counts set.cell_ends set.blocks set.blocks) n) is_inside_lem
+          ap (λ (k : ℕ). sums_to (up_to (k - 1) ∷ counts_but counts set.cell_ends set.blocks set.blocks) n) inside_is
           ∙ ap (λ (k : ℕ). sums_to (up_to (inside_cells near p - 1) ∷ counts_but counts set.cell_ends k k) n) many
 
       inner_one_less : (leb 1 rest && inner (rest - 1)) ≡ (leb 1 (mines_left total p) && inner_sums near p counts set.cell_ends (mines_left total p - 1))
@@ -111,13 +111,13 @@ module _ (edgeless : Bool) (rows columns : ℕ) (p : List ℕ) (board : Board p 
           → (0 < inside → Filled (bit (leb 1 rest && inner (rest - 1))) joined mined) → (inside ≡ 0 → mined ≡ joined)
           → keep (λ c. is_closed p c && eqb (get_or mined c 0) 0) (range 0 (length p)) ≡ (forced_cells near (of_total total) 5 p).safe
       rule_safe {shown} {joined} {mined} first stages filled kept =
-          board_safe counts set.cell_ends (rw blocks_are at held) (rw blocks_are at (stages near p (replicate 1024 2) total blocks_are is_inside_lem is_rest first))
-          (λ h. subst (λ (b : Bool). Filled (bit b) joined mined) inner_one_less (filled (rw is_inside_lem h))) (λ h. kept (is_inside_lem ∙ h))
+          board_safe counts set.cell_ends (rw blocks_are at held) (rw blocks_are at (stages near p (replicate 1024 2) total blocks_are inside_is is_rest first))
+          (λ h. subst (λ (b : Bool). Filled (bit b) joined mined) inner_one_less (filled (rw inside_is h))) (λ h. kept (inside_is ∙ h))
 
       pub rule_mines : {shown joined unfilled : List ℕ} → CellsTold (blocks_of set) (length (blocks_of set)) (free_shown (blocks_of set)) (replicate 1024 2) shown
           → Stages free_stage free_shown set inside rest shown joined (length (blocks_of set))
           → (0 < inside → Filled (bit (inner rest)) joined unfilled) → (inside ≡ 0 → unfilled ≡ joined)
           → keep (λ c. is_closed p c && eqb (get_or unfilled c 0) 0) (range 0 (length p)) ≡ (forced_cells near (of_total total) 5 p).mines
       rule_mines {shown} {joined} {unfilled} first stages filled kept =
-          board_mines counts set.cell_ends (rw blocks_are at held) (rw blocks_are at (stages near p (replicate 1024 2) total blocks_are is_inside_lem is_rest first))
-          (λ h. subst (λ (b : Bool). Filled (bit b) joined unfilled) inner_all (filled (rw is_inside_lem h))) (λ h. kept (is_inside_lem ∙ h))
+          board_mines counts set.cell_ends (rw blocks_are at held) (rw blocks_are at (stages near p (replicate 1024 2) total blocks_are inside_is is_rest first))
+          (λ h. subst (λ (b : Bool). Filled (bit b) joined unfilled) inner_all (filled (rw inside_is h))) (λ h. kept (inside_is ∙ h))

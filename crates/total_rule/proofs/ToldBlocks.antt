@@ -56,33 +56,33 @@ groups_in_array b combinable c = go (dec_lt c 1024)
 
 -- cells told by their groups, which are told by a test
 pub told_block : (cells slots rests : List ℕ) (bounds : Bounds) → Combinable (block_from cells slots rests bounds) → (r : Grouped) → r ≡ grouped (block_from cells slots rests bounds)
-    → (by_group_lem : List ℕ) (test : ℕ → Bool) → ((g : ℕ) → g < length (firsts (block_from cells slots rests bounds)) → get_or by_group_lem g 0 ≡ bit (test g))
-    → {before after : List ℕ} → Told (cells_from cells bounds.first_cell bounds.end_cell) (λ c. get_or by_group_lem (get_or r.group_of c 0) 0) before after
+    → (by_group : List ℕ) (test : ℕ → Bool) → ((g : ℕ) → g < length (firsts (block_from cells slots rests bounds)) → get_or by_group g 0 ≡ bit (test g))
+    → {before after : List ℕ} → Told (cells_from cells bounds.first_cell bounds.end_cell) (λ c. get_or by_group (get_or r.group_of c 0) 0) before after
     → ToldBlock (block_from cells slots rests bounds) test before after
 unfolding block_from
-told_block cells slots rests bounds combinable r is by_group_lem test tells {before} {after} t = record { whole = t.whole; at_cell = λ c. t.at_cell c ∙ go c (decided (has b.cells c)) }
+told_block cells slots rests bounds combinable r is by_group test tells {before} {after} t = record { whole = t.whole; at_cell = λ c. t.at_cell c ∙ go c (decided (has b.cells c)) }
   where
     b : Block
     b = block_from cells slots rests bounds
 
     go : (c : ℕ) → Decided (has b.cells c)
-        → cond (has b.cells c) (get_or by_group_lem (get_or r.group_of c 0) 0) (get_or before c 0) ≡ cond (has b.cells c) (bit (test (group_of_cell b c))) (get_or before c 0)
+        → cond (has b.cells c) (get_or by_group (get_or r.group_of c 0) 0) (get_or before c 0) ≡ cond (has b.cells c) (bit (test (group_of_cell b c))) (get_or before c 0)
     go c (inl e) =
         rw e
-        (ap (λ (q : Grouped). get_or by_group_lem (get_or q.group_of c 0) 0) is ∙ ap (λ (g : ℕ). get_or by_group_lem g 0) (group_read b combinable c e) ∙ tells (group_of_cell b c) (group_of_below b c e))
+        (ap (λ (q : Grouped). get_or by_group (get_or q.group_of c 0) 0) is ∙ ap (λ (g : ℕ). get_or by_group g 0) (group_read b combinable c e) ∙ tells (group_of_cell b c) (group_of_below b c e))
     go c (inr e) = rw e
 
 -- ---- block after block
 
 pub cells_told_none : (bs : List Block) (test : ℕ → ℕ → Bool) (before : List ℕ) → CellsTold bs 0 test before before
-cells_told_none bs test before = record { whole = refl; of_block_lem = λ j h. absurd (omega arith); of_none = λ c h. refl }
+cells_told_none bs test before = record { whole = refl; of_block = λ j h. absurd (omega arith); of_none = λ c h. refl }
 
 -- with a test that says the same
 pub cells_told_same : {bs : List Block} {k : ℕ} {test : ℕ → ℕ → Bool} {before after : List ℕ} → CellsTold bs k test before after
     → (other : ℕ → ℕ → Bool) → ((j g : ℕ) → j < k → other j g ≡ test j g) → CellsTold bs k other before after
 cells_told_same t other h = record {
   whole = t.whole;
-  of_block_lem = λ j l c m. t.of_block_lem j l c m ∙ ap bit (sym (h j _ l));
+  of_block = λ j l c m. t.of_block j l c m ∙ ap bit (sym (h j _ l));
   of_none = t.of_none;
 }
 
@@ -111,7 +111,7 @@ module _ (bs : List Block) (once : nodup (all_cells bs) ≡ true) where
       → (other : ℕ → ℕ → Bool) → ((g : ℕ) → other i g ≡ h g) → ((j g : ℕ) → eqb j i ≡ false → other j g ≡ test j g) → CellsTold bs more other before after
   cells_told_next {k} {test} {before} {between} {after} t i within h told more few fewer other here there = record {
     whole = told.whole ∙ t.whole;
-    of_block_lem = λ j l c m. block j l c m (decided (eqb j i));
+    of_block = λ j l c m. block j l c m (decided (eqb j i));
     of_none = λ c m. told.at_cell c ∙ none c m (decided (has (block_there bs i).cells c));
   }
     where
@@ -120,7 +120,7 @@ module _ (bs : List Block) (once : nodup (all_cells bs) ≡ true) where
           let is : j ≡ i = eqb-true j i e in
           let own : has (block_there bs i).cells c ≡ true = rw is at m in
           rw is (told.at_cell c ∙ rw own (ap bit (sym (here (group_of_cell (block_there bs i) c)))))
-      block j l c m (inr e) = told.at_cell c ∙ away (decided (has (block_there bs i).cells c)) ∙ t.of_block_lem j (fewer j l e) c m ∙ ap bit (sym (there j _ e))
+      block j l c m (inr e) = told.at_cell c ∙ away (decided (has (block_there bs i).cells c)) ∙ t.of_block j (fewer j l e) c m ∙ ap bit (sym (there j _ e))
         where
           away : Decided (has (block_there bs i).cells c) → cond (has (block_there bs i).cells c) (bit (h (group_of_cell (block_there bs i) c))) (get_or between c 0) ≡ get_or between c 0
           away (inl w) = absurd (eqb-false j i e (there_only bs once j i (omega (arith, l, few)) within c m w))

@@ -3,96 +3,99 @@
 use mathlib.Core.Path.{◌≡◌, refl, sym, ap, ◌∙◌}
 use mathlib.Core.Logic.{inl, inr}
 use mathlib.Core.Bool.{Bool, true, false, cond, ◌&&◌, ◌||◌, or-false}
-use mathlib.Core.List.{List, [], ◌∷◌, ◌++◌, map, map-append}
-use Prim.Native.Nat.{ℕ, suc, ◌+◌, ◌-◌, ◌≤◌, ◌<◌}
+use mathlib.Core.List.{List, [], ◌∷◌, ◌++◌}
+use Prim.Native.Nat.{ℕ, ◌+◌, ◌-◌, ◌≤◌, ◌<◌}
 use native.Mathlib.Omega.{arith}
 use native.Mathlib.Decide.{dec_lt}
 use lib.Dec.{leb, ltb, eqb}
-use lib.ListN.{length, get_or, set, length-set, length-append, get_or-eq_default}
-use lib.Seq.{get_or-set_same, get_or-set_other}
+use native.Mathlib.Numerals.{add-one}
+use lib.ListN.{length, get_or, set, take, drop, length-set, length-append, length-drop, get_or-append, get_or-eq_default}
+use lib.Seq.{get_or-set_same, get_or-set_other, get_or-take, get_or-drop, get_or-append-add, length-take-le, take-suc, sets, sets-eq}
 use borrow.Author.Tests.{eqb-true, eqb-false, le-leb, lt-leb, lt-ltb, le-ltb}
 use Rattle.lists.specs.Lists.{range, bit, keep, has, pad}
 use Rattle.lists.proofs.Tests.{Decided, decided}
 use Rattle.lists.proofs.Elements.{get_d_any}
 use Rattle.fitting.specs.Equations.{is_closed}
-use Rattle.lists.proofs.Members.{has_append, range_last}
+use Rattle.lists.proofs.Members.{has_append}
 use Rattle.lists.proofs.Arrays.{pad_push}
 use Rattle.lists.proofs.Kept.{keep_range_push, keep_range_pass}
 use Rattle.lists.proofs.Collected.{keep_few}
 use Rattle.lists.proofs.Rearranged.{length_range}
-use Rattle.blocks.specs.Places.{cells_from}
 use Rattle.total_rule.specs.Cells.{Copied, Told, Filled}
 
 -- ---- numbers copied
 
-pub copied_none : (numbers : List ℕ) (at : ℕ) (before : List ℕ) → Copied numbers 0 at before before
-copied_none numbers at before = record { whole = refl; at_place = λ i. go i (dec_lt i at) }
-  where
-    go : (i : ℕ) → Dec (i < at) → get_or before i 0 ≡ cond (leb at i && ltb i (at + 0)) (get_or numbers (i - at) 0) (get_or before i 0)
-    go i (yes h) = rw (lt-leb at i h)
-    go i (no h) = rw (le-leb at i (omega arith), le-ltb i (at + 0) (omega arith))
-
-pub copied_more : {numbers : List ℕ} {many at : ℕ} {before after : List ℕ} → Copied numbers many at before after → at + many < length before
-    → Copied numbers (many + 1) at before (set after (at + many) (get_or numbers many 0))
-copied_more {numbers} {many} {at} {before} {after} c l = record {
-  whole = length-set after (at + many) (get_or numbers many 0) ∙ c.whole;
-  at_place = λ i. go i (decided (eqb i (at + many)));
+-- the first of them put into an array
+pub copied_over : (numbers before : List ℕ) (many at : ℕ) → many ≤ length numbers → at + many ≤ length before → Copied numbers many at before (sets before at (take many numbers))
+copied_over numbers before many at h l = rw (sets-eq part before at (omega (arith, long))) record {
+  whole = omega (arith, length-append front rest, length-append (take at before) part, first_long, long, length-drop (at + length part) before);
+  at_place = λ i. go i (dec_lt i (at + many)) (dec_lt i at);
 }
   where
-    elsewhere : (i : ℕ) → eqb i (at + many) ≡ false → Dec (i < at + many) → (leb at i && ltb i (at + many)) ≡ (leb at i && ltb i (at + (many + 1)))
-    elsewhere i n (yes h) = rw (lt-ltb i (at + many) h, lt-ltb i (at + (many + 1)) (omega arith))
-    elsewhere i n (no h) = rw (le-ltb i (at + many) (omega arith), le-ltb i (at + (many + 1)) (omega (arith, eqb-false i (at + many) n)))
+    part : List ℕ
+    part = take many numbers
 
-    go : (i : ℕ) → Decided (eqb i (at + many))
-        → get_or (set after (at + many) (get_or numbers many 0)) i 0 ≡ cond (leb at i && ltb i (at + (many + 1))) (get_or numbers (i - at) 0) (get_or before i 0)
-    go i (inl e) =
-        let is : i ≡ at + many = eqb-true i (at + many) e in
-        let place : at + many - at ≡ many = omega arith in
-        rw is
-        (get_or-set_same after (at + many) (get_or numbers many 0) 0 (omega (arith, c.whole, l))
-        ∙ rw (le-leb at (at + many) (omega arith), lt-ltb (at + many) (at + (many + 1)) (omega arith), place))
-    go i (inr n) =
-        get_or-set_other after (at + many) i (get_or numbers many 0) 0 (eqb-false i (at + many) n) ∙ c.at_place i
-        ∙ ap (λ (t : Bool). cond t (get_or numbers (i - at) 0) (get_or before i 0)) (elsewhere i n (dec_lt i (at + many)))
+    long : length part ≡ many
+    long = length-take-le many numbers h
+
+    first_long : length (take at before) ≡ at
+    first_long = length-take-le at before (omega arith)
+
+    front : List ℕ
+    front = take at before ++ part
+
+    rest : List ℕ
+    rest = drop (at + length part) before
+
+    front_long : length front ≡ at + many
+    front_long = omega (arith, length-append (take at before) part, first_long, long)
+
+    go : (i : ℕ) → Dec (i < at + many) → Dec (i < at) → get_or (front ++ rest) i 0 ≡ cond (leb at i && ltb i (at + many)) (get_or numbers (i - at) 0) (get_or before i 0)
+    go i (yes u) (yes v) =
+        rw (lt-leb at i v)
+        (get_or-append front rest 0 i (omega (arith, front_long)) ∙ get_or-append (take at before) part 0 i (omega (arith, first_long)) ∙ get_or-take at before i 0 v)
+    go i (yes u) (no v) =
+        let place : i ≡ length (take at before) + (i - at) = omega (arith, first_long, v) in
+        rw (le-leb at i (omega (arith, v)), lt-ltb i (at + many) u)
+        (get_or-append front rest 0 i (omega (arith, front_long))
+        ∙ ap (λ (k : ℕ). get_or front k 0) place
+        ∙ get_or-append-add (take at before) part (i - at) 0
+        ∙ get_or-take many numbers (i - at) 0 (omega (arith, v)))
+    go i (no u) v =
+        let place : i ≡ length front + (i - (at + many)) = omega (arith, front_long, u) in
+        let back : at + length part + (i - (at + many)) ≡ i = omega (arith, long, u) in
+        rw (le-leb at i (omega (arith, u)), le-ltb i (at + many) (omega (arith, u)))
+        (ap (λ (k : ℕ). get_or (front ++ rest) k 0) place
+        ∙ get_or-append-add front rest (i - (at + many)) 0
+        ∙ get_or-drop (at + length part) before (i - (at + many)) 0
+        ∙ ap (λ (k : ℕ). get_or before k 0) back)
 
 -- ---- cells told
 
-pub told_none : (cells : List ℕ) (first : ℕ) (value : ℕ → ℕ) (before : List ℕ) → Told (cells_from cells first first) value before before
-unfolding cells_from
-told_none cells first value before = record {
-  whole = refl;
-  at_cell = λ c. let none : first - first ≡ 0 = omega arith in rw none;
-}
+pub told_none : (value : ℕ → ℕ) (before : List ℕ) → Told [] value before before
+told_none value before = record { whole = refl; at_cell = λ c. refl }
 
-pub told_more : (cells : List ℕ) {first i : ℕ} {value : ℕ → ℕ} {before after : List ℕ} → first ≤ i → Told (cells_from cells first i) value before after
-    → (c : ℕ) → c ≡ get_or cells i 0 → c < length before → Told (cells_from cells first (i + 1)) value before (set after c (value c))
-unfolding cells_from
-told_more cells {first} {i} {value} {before} {after} h t c is l = record {
+-- one more, which is read at a place of a list
+pub told_more : (cells : List ℕ) (k : ℕ) {value : ℕ → ℕ} {before after : List ℕ} → k < length cells → Told (take k cells) value before after
+    → (c : ℕ) → c ≡ get_or cells k 0 → c < length before → Told (take (k + 1) cells) value before (set after c (value c))
+told_more cells k {value} {before} {after} h t c is l = record {
   whole = length-set after c (value c) ∙ t.whole;
-  at_cell = λ d. go d (decided (eqb d c));
+  at_cell = λ d. rw more (go d (decided (eqb d c)));
 }
   where
-    read : ℕ → ℕ
-    read j = get_or cells j 0
+    more : take (k + 1) cells ≡ take k cells ++ (c ∷ [])
+    more = rw (add-one, take-suc cells k 0 h, ← is)
 
-    more : map read (range first (i + 1 - first)) ≡ map read (range first (i - first)) ++ (c ∷ [])
-    more =
-        let next : i + 1 - first ≡ suc (i - first) = omega arith in
-        let place : first + (i - first) ≡ i = omega arith in
-        rw next (ap (map read) (range_last first (i - first)) ∙ map-append read (range first (i - first)) ((first + (i - first)) ∷ []) ∙ rw (place, is))
-
-    go : (d : ℕ) → Decided (eqb d c) → get_or (set after c (value c)) d 0 ≡ cond (has (map read (range first (i + 1 - first))) d) (value d) (get_or before d 0)
+    go : (d : ℕ) → Decided (eqb d c) → get_or (set after c (value c)) d 0 ≡ cond (has (take k cells ++ (c ∷ [])) d) (value d) (get_or before d 0)
     go d (inl e) =
         let same : d ≡ c = eqb-true d c e in
-        rw (more, has_append (map read (range first (i - first))) (c ∷ []) d, e, same)
-        (get_or-set_same after c (value c) 0 (omega (arith, t.whole, l)) ∙ last (has (map read (range first (i - first))) c))
+        rw (has_append (take k cells) (c ∷ []) d, e, same) (get_or-set_same after c (value c) 0 (omega (arith, t.whole, l)) ∙ last (has (take k cells) c))
       where
         last : (b : Bool) → value c ≡ cond (b || true) (value c) (get_or before c 0)
         last true = refl
         last false = refl
     go d (inr n) =
-        rw (more, has_append (map read (range first (i - first))) (c ∷ []) d, n, or-false (has (map read (range first (i - first))) d))
-        (get_or-set_other after c d (value c) 0 (eqb-false d c n) ∙ t.at_cell d)
+        rw (has_append (take k cells) (c ∷ []) d, n, or-false (has (take k cells) d)) (get_or-set_other after c d (value c) 0 (eqb-false d c n) ∙ t.at_cell d)
 
 -- ---- what is 2 given a value
 

@@ -6,13 +6,14 @@ use Rattle.blocks.specs.Blocks.{Block}
 use Rattle.blocks.specs.BlockSets.{all_cells}
 use Rattle.groups.specs.Groups.{group_of_cell, sizes}
 use Rattle.search.specs.Solutions.{sum, solutions}
+use Rattle.counting.specs.declared.states.Met.{Met}
 use Rattle.totals.specs.Totals.{possible_count, some_mine, some_free}
 use Rattle.totals.specs.Joining.{counts_at}
 
 -- the table of states, with tags below a number
-pub record TableBelow (first : ℕ) (tags keys results : List ℕ) : Type 0 where
-  pub whole : (length tags ≡ 8192) × (length keys ≡ 8192) × (length results ≡ 8192)
-  pub below : (i : ℕ) → get_or tags i 0 < first
+pub record TableBelow (first : ℕ) (met : Met) : Type 0 where
+  pub whole : (length met.tags ≡ 8192) × (length met.keys ≡ 8192) × (length met.results ≡ 8192)
+  pub below : (i : ℕ) → get_or met.tags i 0 < first
 
 -- ---- a block
 
@@ -51,7 +52,7 @@ pub record CountsHeld (bs : List Block) (ends counts : List ℕ) (k : ℕ) : Typ
 -- the cells of the first k blocks are told what is so of their groups; those of no block are as they were
 pub record CellsTold (bs : List Block) (k : ℕ) (test : ℕ → ℕ → Bool) (before after : List ℕ) : Type 0 where
   pub whole : length after ≡ length before
-  pub of_block_lem : (j : ℕ) → j < k → (c : ℕ) → has (block_there bs j).cells c ≡ true → get_or after c 0 ≡ bit (test j (group_of_cell (block_there bs j) c))
+  pub of_block : (j : ℕ) → j < k → (c : ℕ) → has (block_there bs j).cells c ≡ true → get_or after c 0 ≡ bit (test j (group_of_cell (block_there bs j) c))
   pub of_none : (c : ℕ) → has (all_cells bs) c ≡ false → get_or after c 0 ≡ get_or before c 0
 
 -- what is told of block j's groups: what solutions show, with any count

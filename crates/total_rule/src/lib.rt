@@ -8,72 +8,44 @@ pub mod steps;
 
 ghost use Rattle.std.specs.Prelude.{◌≡◌, Bool, List};
 ghost use Rattle.lists.specs.Lists.{count};
-ghost use Rattle.grid.specs.Window.{neighbours, Board};
+ghost use Rattle.grid.specs.Window.{neighbours_on, Board};
 ghost use Rattle.fitting.specs.Layouts.{Fits, of_total};
 ghost use Rattle.fitting.specs.ForcedCells.{forced_cells};
 ghost use Rattle.marks.specs.CellLists.{cell_list};
 
 use cells::list_never;
+use counting::states::Met;
 use direct::answer::Lists;
 use frontier::counts::{inside_cells, known_mines};
 use frontier::read_blocks;
-use steps::{count_blocks, join_blocks, place_rest};
+use grid::window::Size;
+use steps::CellMarks;
 
 // What the rule finds at a position, where some layout of the total fits.
-pub fn find_by_total(
-    edgeless: bool,
-    rows: usize,
-    columns: usize,
-    position: &[u8],
-    total: usize,
-) -> Lists
-    requires board { Board position.now rows columns }
-    requires fits { (m : List Bool) × Fits (neighbours edgeless rows columns) position.now m × (count (λ x. x) m ≡ total) }
-    ensures safe_value { result.safe ≡ cell_list (forced_cells (neighbours edgeless rows columns) (of_total total) 5 position.now).safe }
-    ensures mines_value { result.mines ≡ cell_list (forced_cells (neighbours edgeless rows columns) (of_total total) 5 position.now).mines }
+pub fn find_by_total(size: Size, position: &[u8], total: usize) -> Lists
+    requires board { Board position.now size.rows size.columns }
+    requires fits { (m : List Bool) × Fits (neighbours_on size) position.now m × (count (λ x. x) m ≡ total) }
+    ensures safe_value { result.safe ≡ cell_list (forced_cells (neighbours_on size) (of_total total) 5 position.now).safe }
+    ensures mines_value { result.mines ≡ cell_list (forced_cells (neighbours_on size) (of_total total) 5 position.now).mines }
 {
-    let set = read_blocks(edgeless, rows, columns, position);
-    let inside = inside_cells(edgeless, rows, columns, position);
+    let set = read_blocks(size, position);
+    let inside = inside_cells(size, position);
     let known = known_mines(position);
     let rest = total - known;
     let mut counts = [0u8; 2048];
-    let mut mined = [2u8; 1024];
-    let mut unfilled = [2u8; 1024];
-    let mut tags = [0u32; 8192];
-    let mut keys = [0usize; 8192];
-    let mut results = [0u8; 8192];
-    count_blocks(
-        set,
-        &mut counts,
-        &mut mined,
-        &mut unfilled,
-        &mut tags,
-        &mut keys,
-        &mut results,
-    );
-    join_blocks(
-        set,
-        &counts,
-        inside,
-        rest,
-        &mut mined,
-        &mut unfilled,
-        &mut tags,
-        &mut keys,
-        &mut results,
-    );
-    let ends = set.cell_ends;
-    let blocks = set.blocks;
-    place_rest(
-        &counts,
-        &ends,
-        blocks,
-        inside,
-        rest,
-        &mut mined,
-        &mut unfilled,
-    );
-    let safe = list_never(position, &mined);
-    let mines = list_never(position, &unfilled);
+    let mut marks = CellMarks {
+        mined: [2; 1024],
+        unfilled: [2; 1024],
+    };
+    let mut met = Met {
+        tags: [0; 8192],
+        keys: [0; 8192],
+        results: [0; 8192],
+    };
+    marks.count_blocks(&set, &mut counts, &mut met);
+    marks.join_blocks(&set, &counts, inside, rest, &mut met);
+    marks.place_rest(&set, &counts, inside, rest);
+    let safe = list_never(position, &marks.mined);
+    let mines = list_never(position, &marks.unfilled);
     Lists { safe, mines }
 }

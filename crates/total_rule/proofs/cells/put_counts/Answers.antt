@@ -1,20 +1,22 @@
--- `total_rule::cells::put_counts` meets its contract. The loop's invariant: the first t numbers are copied. The measure is what is left. Assumes nothing.
-use mathlib.Core.Path.{◌≡◌}
+-- `total_rule::cells::put_counts` meets its contract. Rests on the laws of stores. Assumes nothing.
 use native.Mathlib.Omega.{arith}
-use Rattle.total_rule.proofs.ToldCells.{copied_none, copied_more}
+use lib.ListN.{length, take}
+use lib.Seq.{length-take-le}
+use Prim.Native.Nat.{◌+◌, ◌-◌}
+use mathlib.Core.Path.{◌≡◌}
+use borrow.Author.Rules.{rules}
+use Rattle.lists.proofs.Stores.{copied_stored}
+use Rattle.total_rule.proofs.ToldCells.{copied_over}
 use Rattle.total_rule.proofs.cells.put_counts.Goals as goal
-
-pub loop-t-init : goal.loop-t-init
-loop-t-init c = (omega arith, copied_none c.args.reached.now c.args.at c.args.counts.now)
-
-pub loop-t-preserved : goal.loop-t-preserved
-loop-t-preserved c =
-    let loop = c.loop-t in
-    let test = c.loop-t-test.true in
-    (omega (arith, test), copied_more loop.invariant.1 (omega (arith, test, c.requires.1, c.requires.2)))
 
 pub returns : goal.returns
 returns c =
-    let loop = c.loop-t in
-    let all : loop.t ≡ c.args.many = omega (arith, loop.invariant.0, c.loop-t-test.false) in
-    rw all at loop.invariant.1
+    let whole : length c.args.reached.now ≡ 1025 = search rules in
+    let room : length c.args.counts.now ≡ 2048 = search rules in
+    let many = length-take-le c.args.many c.args.reached.now (omega (arith, c.requires.0)) in
+    rw (
+      c.copy_from_slice.ensures.after,
+      copied_stored c.args.counts.now (take c.args.many c.args.reached.now) c.args.at (omega (arith, many, c.requires.1)) (c.args.at + c.args.many - c.args.at)
+          (omega (arith, many)),
+    )
+    (copied_over c.args.reached.now c.args.counts.now c.args.many c.args.at (omega (arith, c.requires.0)) (omega (arith, c.requires.1)))

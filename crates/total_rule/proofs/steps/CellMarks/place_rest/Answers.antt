@@ -1,12 +1,12 @@
--- `total_rule::steps::place_rest` meets its contract: the sums of all blocks and the other inside cells tell what an inside cell may be. Rests on the contracts of the
--- calls. Assumes nothing.
+-- `total_rule::steps::CellMarks::place_rest` meets its contract: the sums of all blocks and the other inside cells tell what an inside cell may be. Rests on the
+-- contracts of the calls. Assumes nothing.
 use mathlib.Core.Path.{refl, ap, ◌∙◌}
 use native.Mathlib.Omega.{arith}
 use Prim.Native.Nat.{◌-◌, ◌≤◌}
 use Rattle.lists.specs.Lists.{bit}
 use Rattle.total_rule.proofs.ToldCells.{filled_value, rest_some, rest_none}
-use Rattle.total_rule.proofs.steps.place_rest.Goals as goal
-use Rattle.total_rule.proofs.steps.place_rest.Goals.{else-rest-gt0, then-rest-gt0}
+use Rattle.total_rule.proofs.steps.CellMarks.place_rest.Goals as goal
+use Rattle.total_rule.proofs.steps.CellMarks.place_rest.Goals.{else-rest-gt0, then-rest-gt0}
 
 pub returns-then-inside-eq0 : goal.returns-then-inside-eq0
 returns-then-inside-eq0 c = record { filled = λ h. absurd (omega (arith, c.if-inside-eq0.true)); filled_2 = λ h. absurd (omega (arith, c.if-inside-eq0.true)); mined_unchanged = λ h. (refl, refl) }
