@@ -2,7 +2,9 @@
 // step; here they are only moved. A read or a write that fails is told on standard error with its cause.
 #![tactic(auto)]
 
-ghost use Rattle.std.specs.Prelude.{◌≡◌, ◌≤◌, Bool, length};
+ghost use Rattle.std.specs.Prelude.{◌≡◌, ◌≤◌, Bool, List, ℕ, length};
+ghost use Rattle.std.specs.Io.KnownBytes.{Consumes};
+ghost use Rattle.std.specs.List.{FoldsTo};
 ghost use Rattle.inputs.specs.Parts.{TakesAtMost};
 
 use run::keep_rest;
@@ -65,24 +67,27 @@ fn stop<E: Write>(messages: &mut E, program: &str, what: &str, error: io::Error)
 // Gives a step each byte of an input, in their order, up to the input's end or a read that fails.
 pub fn for_each_byte<R: Read, F: FnMut(u8)>(reader: &mut R, mut step: F)
     requires { F.IsAlwaysCallable step }
+    ensures { (bytes : List ℕ) × (last : F) × Consumes (R.remaining reader.old) (R.remaining reader.new) bytes × FoldsTo (λ p x q. F.step p x tt q) step bytes last }
 {
     let mut part = [0u8; 65536];
     for _ in 0..u64::MAX {
-        let came = reader.read(&mut part).unwrap_or(0);
-        if came == 0 {
-            return;
+        match reader.read(&mut part) {
+            Ok(came) if 0 < came => give_all(&part[..came], &mut step),
+            _ => return,
         }
-        give_all(&part[..came], &mut step);
     }
 }
 
 // Gives a step each byte of a part.
 fn give_all<F: FnMut(u8)>(part: &[u8], step: &mut F)
     requires { F.IsAlwaysCallable step.old }
-    ensures { F.IsAlwaysCallable step.new }
+    ensures callable { F.IsAlwaysCallable step.new }
+    ensures gave { FoldsTo (λ p x q. F.step p x tt q) step.old part.now step.new }
 {
-    for &byte in part {
+    let mut rest = part;
+    while let Some((&byte, tail)) = rest.split_first() {
         step(byte);
+        rest = tail;
     }
 }
 
