@@ -2,7 +2,7 @@
 -- with a closed neighbour shows fewer than the mines known and found beside it, and solve_enumerate exactly where these pass and no mines on the closed
 -- cells give each such cell its number; solve_minus only there. Rests on FromPosition of the crate direct, on NoSolution of the crate enumeration, and on the
 -- laws that the two first rules meet no contradiction where something solves the equations. Assumes nothing.
-use Rattle.std.specs.Prelude.{Err, Ok}
+use Rattle.std.specs.Prelude.{Result, Ok, Err}
 use mathlib.Core.Path.{◌≡◌, refl, sym, ap, ◌∙◌}
 use mathlib.Core.Logic.{inl, inr, ◌↔◌}
 use mathlib.Core.Bool.{Bool, true, false, ◌&&◌}
@@ -18,6 +18,7 @@ use Rattle.lists.proofs.Occurrences.{empty_nil}
 use Rattle.grid.specs.Cells.{shows}
 use Rattle.grid.specs.Window.{flat, around, neighbours}
 use Rattle.grid.proofs.Neighbours.{neighbours_nodup, neighbours_few}
+use Rattle.refusals.specs.declared.Refusal.{Refusal}
 use Rattle.refusals.specs.declared.Refusal.TheVariants.{Size, Length, Cell}
 use Rattle.refusals.specs.Refusals.{Accepted, Tested, tested_number, test, tested}
 use Rattle.refusals.specs.Tests.{size_ok, length_ok, room_ok, position_cells_ok, deduction_tested}
@@ -41,13 +42,14 @@ use Rattle.subtraction.specs.Minus.{subtraction}
 use Rattle.subtraction.proofs.MinusLaws.{subtraction_no_contradiction}
 use Rattle.enumeration.specs.Enumeration.{enumerated}
 use Rattle.enumeration.proofs.NoSolution.{enumeration_contradiction_at}
-use Rattle.deductions.specs.Answers.{Seen, seen, refused_answer, deduction_after_tests, deduction}
+use Rattle.deductions.specs.Answers.{seen, deduction_after_tests, deduction}
 use Rattle.deductions.specs.Contradictions.{Placing, NoPlacing, TestsPass}
 use Rattle.deductions.specs.ByRule.{rule_on, RefusesBy}
 use Rattle.deductions.specs.declared.Rule.{Rule}
 use Rattle.deductions.specs.declared.Rule.TheVariants.{Direct, Minus, Enumerate}
 use Rattle.deductions.specs.declared.answer.DeductionAnswer.{DeductionAnswer}
 use Rattle.deductions.proofs.Handed.{after_contradiction, after_lists}
+use Rattle.deductions.proofs.SoundCalls.{number_of}
 
 -- ---- the tests
 
@@ -66,15 +68,10 @@ tests_never_six rows columns p s m h =
 
 -- ---- a call of any rule
 
--- the number that a caller sees
-abbrev number_of : Seen → ℕ
-number_of w = tested_number w.answer.tested
-
-module _ (f : Found) (p s m : List ℕ) (r : DeductionAnswer) (p' s' m' : List ℕ) where
+module _ (f : Found) (p s m : List ℕ) (r : Result DeductionAnswer Refusal) (p' s' m' : List ℕ) where
   -- refusal 6 is the rule's, where the tests do not give it
-  six_from_rule : (t : Tested) → (tested_number t ≡ 6 → ⊥) → seen r p' s' m' ≡ deduction_after_tests t f p s m → tested_number r.tested ≡ 6
+  six_from_rule : (t : Tested) → (tested_number t ≡ 6 → ⊥) → seen r p' s' m' ≡ deduction_after_tests t f p s m → tested_number r ≡ 6
       → (t ≡ Accepted) × (f.contradiction ≡ true)
-  unfolding refused_answer
   six_from_rule (Err x) never e a = absurd (never (sym (ap number_of e) ∙ a))
   six_from_rule (Ok _) never e a = (refl, go (decided f.contradiction))
     where
@@ -83,15 +80,14 @@ module _ (f : Found) (p s m : List ℕ) (r : DeductionAnswer) (p' s' m' : List �
       go (inr k) = absurd (omega (arith, ap number_of (e ∙ after_lists f p s m k)))
 
   -- and the rule's is the call's, where they accept
-  six_from_call : (t : Tested) → seen r p' s' m' ≡ deduction_after_tests t f p s m → t ≡ Accepted → f.contradiction ≡ true → tested_number r.tested ≡ 6
-  unfolding refused_answer
+  six_from_call : (t : Tested) → seen r p' s' m' ≡ deduction_after_tests t f p s m → t ≡ Accepted → f.contradiction ≡ true → tested_number r ≡ 6
   six_from_call (Err x) e a k = not_both (Err x) x a refl
   six_from_call (Ok _) e a k = ap number_of (e ∙ after_contradiction f p s m k)
 
 -- so where a rule meets a contradiction only in a case, its call refuses with 6 only there
-module _ (rule : List Block → Found) (case : Type 0) (edgeless : Bool) (rows columns : ℕ) (p s m : List ℕ) (r : DeductionAnswer) (p' s' m' : List ℕ)
+module _ (rule : List Block → Found) (case : Type 0) (edgeless : Bool) (rows columns : ℕ) (p s m : List ℕ) (r : Result DeductionAnswer Refusal) (p' s' m' : List ℕ)
     (call : seen r p' s' m' ≡ deduction rule edgeless rows columns p s m) where
-  call_refuses_only : ((rule (frontier (neighbours edgeless rows columns) p)).contradiction ≡ true → case) → tested_number r.tested ≡ 6 → TestsPass rows columns p s m × case
+  call_refuses_only : ((rule (frontier (neighbours edgeless rows columns) p)).contradiction ≡ true → case) → tested_number r ≡ 6 → TestsPass rows columns p s m × case
   call_refuses_only only a =
       let (accepted, k) =
       six_from_rule (rule (frontier (neighbours edgeless rows columns) p)) p s m r p' s' m' (deduction_tested rows columns p (length s) (length m))
@@ -99,7 +95,7 @@ module _ (rule : List Block → Found) (case : Type 0) (edgeless : Bool) (rows c
       (accepted, only k)
 
   -- and where exactly in a case, exactly there
-  call_refuses : ((rule (frontier (neighbours edgeless rows columns) p)).contradiction ≡ true) ↔ case → (tested_number r.tested ≡ 6) ↔ (TestsPass rows columns p s m × case)
+  call_refuses : ((rule (frontier (neighbours edgeless rows columns) p)).contradiction ≡ true) ↔ case → (tested_number r ≡ 6) ↔ (TestsPass rows columns p s m × case)
   call_refuses exactly = (
     call_refuses_only exactly.0,
     λ (accepted, k). six_from_call (rule (frontier (neighbours edgeless rows columns) p)) p s m r p' s' m' (deduction_tested rows columns p (length s) (length m)) call accepted (exactly.1 k),
@@ -136,8 +132,8 @@ module _ (edgeless : Bool) (rows columns : ℕ) (p : List ℕ) where
 
 -- ---- the calls
 
-module _ (edgeless : Bool) (rows columns : ℕ) (p s m : List ℕ) (r : DeductionAnswer) (p' s' m' : List ℕ) where
-  pub call_refuses_by_rule : (rule : Rule) → seen r p' s' m' ≡ deduction (rule_on rule) edgeless rows columns p s m → RefusesBy rule edgeless rows columns p s m (tested_number r.tested)
+module _ (edgeless : Bool) (rows columns : ℕ) (p s m : List ℕ) (r : Result DeductionAnswer Refusal) (p' s' m' : List ℕ) where
+  pub call_refuses_by_rule : (rule : Rule) → seen r p' s' m' ≡ deduction (rule_on rule) edgeless rows columns p s m → RefusesBy rule edgeless rows columns p s m (tested_number r)
   call_refuses_by_rule Direct call =
       call_refuses direct (is_contradictory_at (neighbours edgeless rows columns) p ≡ true) edgeless rows columns p s m r p' s' m' call (direct_meets edgeless rows columns p)
   call_refuses_by_rule Minus call =

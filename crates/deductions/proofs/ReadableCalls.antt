@@ -1,6 +1,6 @@
 -- What a caller of a rule can read of the answer, from the definition alone, whatever was asked: the counts are within the lists, and the block set is whole.
 -- A refusal has no cells and no blocks. Rests on Handed, Deductions, and LeftFits of the crates rules and subtraction. Assumes nothing.
-use Rattle.std.specs.Prelude.{Err, Ok}
+use Rattle.std.specs.Prelude.{Result, Ok, Err}
 use mathlib.Core.Path.{◌≡◌, refl}
 use mathlib.Core.Logic.{inl, inr}
 use mathlib.Core.Bool.{Bool, true, false, cond}
@@ -17,8 +17,9 @@ use Rattle.refusals.specs.declared.Refusal.TheVariants.{Contradiction}
 use Rattle.refusals.specs.Tests.{deduction_tested}
 use Rattle.refusals.proofs.Accepted.{AcceptedDeduction, accepted_deduction}
 use Rattle.blocks.specs.Blocks.{Block}
-use Rattle.blocks.specs.BlockSets.{Small}
+use Rattle.blocks.specs.BlockSets.{block_set, Small, Whole}
 use Rattle.blocks.proofs.Behind.{set_whole, none_fits}
+use Rattle.deductions.specs.declared.answer.DeductionAnswer.{DeductionAnswer}
 use Rattle.frontier.specs.Frontier.{frontier}
 use Rattle.frontier.proofs.ReadFrontier.{frontier_fits}
 use Rattle.direct.specs.Found.{Found, contradicted, found}
@@ -26,7 +27,7 @@ use Rattle.direct.proofs.Soundness.{listed_few}
 use Rattle.direct.proofs.LeftFits.{direct_left_fits}
 use Rattle.subtraction.proofs.LeftFits.{subtraction_left_fits}
 use Rattle.enumeration.specs.Enumeration.{safe_cells, mine_cells, unsolvable, enumerated}
-use Rattle.deductions.specs.Answers.{refused_answer, refused, after_found, deduction_after_tests, deduction}
+use Rattle.deductions.specs.Answers.{refused, after_found, deduction_after_tests, deduction}
 use Rattle.deductions.specs.ByRule.{rule_on, Readable}
 use Rattle.deductions.specs.declared.Rule.{Rule}
 use Rattle.deductions.specs.declared.Rule.TheVariants.{Direct, Minus, Enumerate}
@@ -36,12 +37,18 @@ use Rattle.refusals.specs.Refusals.{Accepted, Tested}
 
 -- of a refusal
 refused_readable : (x : Refusal) (p s m : List ℕ) → Readable (refused x p s m)
-unfolding refused_answer
 refused_readable x p s m = record {
   safe_within = omega arith;
   mines_within = omega arith;
-  blocks_whole = set_whole [] _ refl none_fits;
+  blocks_whole = λ {a} e. let both : ◌≡◌ {A = Result DeductionAnswer Refusal} (Err x) (Ok a) = e in let z : ◌≡◌ {A = ℕ} 0 1 = cc in absurd (omega arith);
 }
+
+-- the blocks that a rule leaves, where they fit into a set
+left_whole : (f : Found) → Small f.left → {a : DeductionAnswer}
+    → ◌≡◌ {A = Result DeductionAnswer Refusal} (Ok (record { safe = length f.safe; mines = length f.mines; blocks = block_set f.left })) (Ok a) → Whole a.blocks
+left_whole f small {a} e =
+    let same : a ≡ record { safe = length f.safe; mines = length f.mines; blocks = block_set f.left } = cc in
+    rw same (set_whole f.left _ refl small)
 
 -- of what a rule found, where its lists fit into the slices and its blocks into a set
 found_readable : (f : Found) (p s m : List ℕ) → length f.safe ≤ length s → length f.mines ≤ length m
@@ -55,7 +62,7 @@ found_readable f p s m safe mines small = go (decided f.contradiction)
         (record {
           safe_within = omega (arith, length-sets s 0 f.safe);
           mines_within = omega (arith, length-sets m 0 f.mines);
-          blocks_whole = set_whole f.left _ refl small;
+          blocks_whole = λ e. left_whole f small e;
         })
 
 -- ---- of a call

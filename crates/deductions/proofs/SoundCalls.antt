@@ -1,7 +1,7 @@
 -- What specs/Calls.antt says of a call of any rule, from the equation that the call ensures. An accepted call hands on the lists of a rule that is sound at
 -- the position: they are what stands at the front of the slices, and of what is marked. A refused call keeps all. And solve_enumerate is complete, since
 -- enumeration is. Rests on Deductions, Soundness of the crate direct, Completeness of the crate enumeration and the laws of what is written. Assumes nothing.
-use Rattle.std.specs.Prelude.{Err, Ok}
+use Rattle.std.specs.Prelude.{Result, Err, Ok}
 use mathlib.Core.Path.{◌≡◌, refl, sym, ap, ◌∙◌}
 use mathlib.Core.Logic.{inl, inr, ◌≢◌}
 use mathlib.Core.Bool.{Bool, true, false}
@@ -20,10 +20,10 @@ use Rattle.grid.specs.Window.{neighbours}
 use Rattle.grid.proofs.Neighbours.{neighbours_nodup, neighbours_few}
 use Rattle.refusals.specs.declared.Refusal.{Refusal}
 use Rattle.refusals.specs.declared.Refusal.TheVariants.{Contradiction}
-use Rattle.refusals.specs.Refusals.{Accepted, Tested, tested_number}
+use Rattle.refusals.specs.Refusals.{Accepted, Tested, tested_number, refusal_number}
 use Rattle.refusals.specs.Tests.{deduction_tested}
 use Rattle.refusals.proofs.FirstFailure.{not_both}
-use Rattle.refusals.proofs.RefusalNumbers.{zero_accepted, else_refused}
+use Rattle.refusals.proofs.RefusalNumbers.{refusal_numbered}
 use Rattle.refusals.proofs.Accepted.{AcceptedDeduction, accepted_deduction}
 use Rattle.fitting.specs.Layouts.{Fits}
 use Rattle.fitting.proofs.Layouts.{on_board}
@@ -34,7 +34,7 @@ use Rattle.marks.proofs.WrittenCells.{written_length, written_shows, written_els
 use Rattle.direct.specs.Found.{Found}
 use Rattle.direct.proofs.Soundness.{SoundAt, listed_closed, listed_once, listed_few, listed_apart}
 use Rattle.enumeration.proofs.Completeness.{enumeration_complete_at}
-use Rattle.deductions.specs.Answers.{Seen, seen, refused_answer, refused, deduction_after_tests, deduction}
+use Rattle.deductions.specs.Answers.{Seen, seen, safe_count, mine_count, refused, deduction_after_tests, deduction}
 use Rattle.deductions.specs.Calls.{ListsTrue, OnlyMarked, AllKept, SoundCall, AmongFirst, CompleteCall}
 use Rattle.deductions.specs.ByRule.{rule_on, CompleteBy}
 use Rattle.deductions.specs.declared.Rule.{Rule}
@@ -100,57 +100,51 @@ module _ {near : ℕ → List ℕ} {p l lent after : List ℕ} {n : ℕ} (a : At
 
 -- ---- what the equation of a call says
 
+-- the number that a caller sees
+abbrev pub number_of : Seen → ℕ
+number_of w = tested_number w.answer
+
 -- the rule met no contradiction, and its lists are handed on
-record Gave (f : Found) (p s m : List ℕ) (r : DeductionAnswer) (p' s' m' : List ℕ) : Type 0 where
+record Gave (f : Found) (p s m : List ℕ) (r : Result DeductionAnswer Refusal) (p' s' m' : List ℕ) : Type 0 where
   pub no_contradiction : f.contradiction ≡ false
-  pub safe_count_lem : r.safe ≡ length f.safe
-  pub mine_count_lem : r.mines ≡ length f.mines
+  pub safe_count_lem : safe_count r ≡ length f.safe
+  pub mine_count_lem : mine_count r ≡ length f.mines
   pub safe_list : s' ≡ sets s 0 f.safe
   pub mine_list : m' ≡ sets m 0 f.mines
   pub position : p' ≡ written 11 f.mines (written 12 f.safe p)
 
-module _ (f : Found) (p s m : List ℕ) (r : DeductionAnswer) (p' s' m' : List ℕ) where
+module _ (f : Found) (p s m : List ℕ) (r : Result DeductionAnswer Refusal) (p' s' m' : List ℕ) where
   -- it is accepted only where the tests accept and the rule meets no contradiction
-  gave : (t : Tested) → seen r p' s' m' ≡ deduction_after_tests t f p s m → r.tested ≡ Accepted → (t ≡ Accepted) × Gave f p s m r p' s' m'
-  unfolding refused_answer
-  gave (Err x) e a = not_both r.tested x a (ap (λ (v : Seen). v.answer.tested) e)
-  gave (Ok _) e a = (refl, go (decided f.contradiction))
+  gave : (t : Tested) → seen r p' s' m' ≡ deduction_after_tests t f p s m → tested_number r ≡ 0 → (t ≡ Accepted) × Gave f p s m r p' s' m'
+  gave (Err x) e z = refusal_numbered x (sym (ap number_of e) ∙ z)
+  gave (Ok _) e z = (refl, go (decided f.contradiction))
     where
       go : Decided f.contradiction → Gave f p s m r p' s' m'
-      go (inl k) = not_both r.tested Contradiction a (ap (λ (v : Seen). v.answer.tested) (e ∙ after_contradiction f p s m k))
+      go (inl k) = refusal_numbered Contradiction (sym (ap number_of (e ∙ after_contradiction f p s m k)) ∙ z)
       go (inr k) =
           let told = e ∙ after_lists f p s m k in
           record {
             no_contradiction = k;
-            safe_count_lem = ap (λ (v : Seen). v.answer.safe) told;
-            mine_count_lem = ap (λ (v : Seen). v.answer.mines) told;
+            safe_count_lem = ap (λ (v : Seen). safe_count v.answer) told;
+            mine_count_lem = ap (λ (v : Seen). mine_count v.answer) told;
             safe_list = ap (λ (v : Seen). v.safe) told;
             mine_list = ap (λ (v : Seen). v.mines) told;
             position = ap (λ (v : Seen). v.position) told;
           }
 
   -- a refusal is its name alone, whoever gives it, and the slices are as they were
-  pub refused_alone : (t : Tested) → seen r p' s' m' ≡ deduction_after_tests t f p s m → (x : Refusal) → r.tested ≡ Err x → seen r p' s' m' ≡ refused x p s m
-  unfolding refused_answer
-  refused_alone (Err y) e x a =
-      let same : Err x ≡ Err y = sym a ∙ ap (λ (v : Seen). v.answer.tested) e in
-      let is : y ≡ x = cc in
-      rw is at e
-  refused_alone (Ok _) e x a = go (decided f.contradiction)
+  refused_alone : (t : Tested) → seen r p' s' m' ≡ deduction_after_tests t f p s m → tested_number r ≢ 0 → (x : Refusal) × (seen r p' s' m' ≡ refused x p s m)
+  refused_alone (Err y) e n = (y, e)
+  refused_alone (Ok _) e n = go (decided f.contradiction)
     where
-      go : Decided f.contradiction → seen r p' s' m' ≡ refused x p s m
-      go (inl k) =
-          let told = e ∙ after_contradiction f p s m k in
-          let same : Err x ≡ Err Contradiction = sym a ∙ ap (λ (v : Seen). v.answer.tested) told in
-          let is : Contradiction ≡ x = cc in
-          rw is at told
-      go (inr k) = not_both r.tested x (ap (λ (v : Seen). v.answer.tested) (e ∙ after_lists f p s m k)) a
+      go : Decided f.contradiction → (x : Refusal) × (seen r p' s' m' ≡ refused x p s m)
+      go (inl k) = (Contradiction, e ∙ after_contradiction f p s m k)
+      go (inr k) = absurd (n (ap number_of (e ∙ after_lists f p s m k)))
 
   -- so a number that is not 0 says that these are kept
-  kept : (t : Tested) → seen r p' s' m' ≡ deduction_after_tests t f p s m → tested_number r.tested ≢ 0 → AllKept p s m p' s' m'
+  kept : (t : Tested) → seen r p' s' m' ≡ deduction_after_tests t f p s m → tested_number r ≢ 0 → AllKept p s m p' s' m'
   kept t e n =
-      let (x, a) = else_refused r.tested n in
-      let alone = refused_alone t e x a in
+      let (x, alone) = refused_alone t e n in
       record {
         position_kept = ap (λ (v : Seen). v.position) alone;
         safe_kept = ap (λ (v : Seen). v.safe) alone;
@@ -158,29 +152,28 @@ module _ (f : Found) (p s m : List ℕ) (r : DeductionAnswer) (p' s' m' : List �
       }
 
   -- the tests' refusal is the call's
-  refused_by_tests : (t : Tested) → seen r p' s' m' ≡ deduction_after_tests t f p s m → (x : Refusal) → t ≡ Err x → r.tested ≡ Err x
-  unfolding refused_answer
-  refused_by_tests (Err y) e x a = ap (λ (v : Seen). v.answer.tested) e ∙ a
+  refused_by_tests : (t : Tested) → seen r p' s' m' ≡ deduction_after_tests t f p s m → (x : Refusal) → t ≡ Err x → tested_number r ≡ refusal_number x
+  refused_by_tests (Err y) e x a = ap number_of e ∙ ap (λ (u : Tested). tested_number u) a
   refused_by_tests (Ok _) e x a = not_both Accepted x refl a
 
   -- and it is accepted where the tests accept and the rule meets no contradiction
-  accepted : (t : Tested) → seen r p' s' m' ≡ deduction_after_tests t f p s m → t ≡ Accepted → f.contradiction ≡ false → r.tested ≡ Accepted
+  accepted : (t : Tested) → seen r p' s' m' ≡ deduction_after_tests t f p s m → t ≡ Accepted → f.contradiction ≡ false → tested_number r ≡ 0
   accepted (Err x) e a k = not_both (Err x) x a refl
-  accepted (Ok _) e a k = ap (λ (v : Seen). v.answer.tested) (e ∙ after_lists f p s m k)
+  accepted (Ok _) e a k = ap number_of (e ∙ after_lists f p s m k)
 
 -- ---- an accepted call of a rule that is sound
 
-module _ (near : ℕ → List ℕ) (f : Found) (p s m : List ℕ) (r : DeductionAnswer) (p' s' m' : List ℕ)
+module _ (near : ℕ → List ℕ) (f : Found) (p s m : List ℕ) (r : Result DeductionAnswer Refusal) (p' s' m' : List ℕ)
     (sound : SoundAt near p f) (safe_room : length p ≤ length s) (mines_room : length p ≤ length m) (g : Gave f p s m r p' s' m') where
   -- where its lists stand
-  safe_front : AtFront near p f.safe s s' r.safe
+  safe_front : AtFront near p f.safe s s' (safe_count r)
   safe_front = record { among = sound.safe_among_lem; room = safe_room; counted = g.safe_count_lem; stored = g.safe_list }
 
-  mines_front : AtFront near p f.mines m m' r.mines
+  mines_front : AtFront near p f.mines m m' (mine_count r)
   mines_front = record { among = sound.mines_among_lem; room = mines_room; counted = g.mine_count_lem; stored = g.mine_list }
 
   -- they are true
-  lists_are_true : ListsTrue near p r.safe r.mines s' m'
+  lists_are_true : ListsTrue near p (safe_count r) (mine_count r) s' m'
   lists_are_true = record {
     safe_within = counted_within safe_front;
     safe_closed = front_closed safe_front;
@@ -197,13 +190,13 @@ module _ (near : ℕ → List ℕ) (f : Found) (p s m : List ℕ) (r : Deduction
   safe_marked = written 12 f.safe p
 
   -- a listed mine shows 11
-  shows_mine : (i : ℕ) → i < r.mines → shows p' (get_or m' i 0) ≡ 11
+  shows_mine : (i : ℕ) → i < mine_count r → shows p' (get_or m' i 0) ≡ 11
   shows_mine i h =
       rw g.position
       (written_shows 11 f.mines safe_marked (get_or m' i 0) (omega (arith, front_on_board mines_front i h, written_length 12 f.safe p)) (front_has mines_front i h))
 
   -- a listed safe cell that is none of the mines shows 12
-  shows_safe : (i : ℕ) → i < r.safe → has f.mines (get_or s' i 0) ≡ false → shows p' (get_or s' i 0) ≡ 12
+  shows_safe : (i : ℕ) → i < safe_count r → has f.mines (get_or s' i 0) ≡ false → shows p' (get_or s' i 0) ≡ 12
   shows_safe i h n =
       let c = get_or s' i 0 in
       rw g.position (written_elsewhere 11 f.mines safe_marked c n ∙ written_shows 12 f.safe p c (front_on_board safe_front i h) (front_has safe_front i h))
@@ -213,7 +206,7 @@ module _ (near : ℕ → List ℕ) (f : Found) (p s m : List ℕ) (r : Deduction
   shows_same c e n = rw g.position (written_elsewhere 11 f.mines safe_marked c n ∙ written_elsewhere 12 f.safe p c e)
 
   -- it marks only what it lists
-  marks_only : OnlyMarked p s m r.safe r.mines p' s' m'
+  marks_only : OnlyMarked p s m (safe_count r) (mine_count r) p' s' m'
   marks_only = record {
     at_mines = shows_mine;
     at_safe = λ i h n. shows_safe i h (rw (front_list mines_front) at n);
@@ -226,7 +219,7 @@ module _ (near : ℕ → List ℕ) (f : Found) (p s m : List ℕ) (r : Deduction
   }
 
   -- and where some layout fits, each listed safe cell shows 12
-  fitting_shows_safe : (layout : List Bool) → Fits near p layout → (i : ℕ) → i < r.safe → shows p' (get_or s' i 0) ≡ 12
+  fitting_shows_safe : (layout : List Bool) → Fits near p layout → (i : ℕ) → i < safe_count r → shows p' (get_or s' i 0) ≡ 12
   fitting_shows_safe layout fit i h = shows_safe i h (apart (decided (has f.mines (get_or s' i 0))))
     where
       apart : Decided (has f.mines (get_or s' i 0)) → has f.mines (get_or s' i 0) ≡ false
@@ -235,7 +228,7 @@ module _ (near : ℕ → List ℕ) (f : Found) (p s m : List ℕ) (r : Deduction
 
 -- ---- a call of any rule
 
-module _ (rule : Rule) (edgeless : Bool) (rows columns : ℕ) (p s m : List ℕ) (r : DeductionAnswer) (p' s' m' : List ℕ)
+module _ (rule : Rule) (edgeless : Bool) (rows columns : ℕ) (p s m : List ℕ) (r : Result DeductionAnswer Refusal) (p' s' m' : List ℕ)
     (call : seen r p' s' m' ≡ deduction (rule_on rule) edgeless rows columns p s m) where
   abbrev near : ℕ → List ℕ
   near = neighbours edgeless rows columns
@@ -247,7 +240,7 @@ module _ (rule : Rule) (edgeless : Bool) (rows columns : ℕ) (p s m : List ℕ)
   tests = deduction_tested rows columns p (length s) (length m)
 
   -- what it is to be accepted
-  module _ (a : r.tested ≡ Accepted) where
+  module _ (a : tested_number r ≡ 0) where
     facts : AcceptedDeduction rows columns p (length s) (length m)
     facts = accepted_deduction rows columns p (length s) (length m) (gave found p s m r p' s' m' tests call a).0
 
@@ -260,25 +253,24 @@ module _ (rule : Rule) (edgeless : Bool) (rows columns : ℕ) (p s m : List ℕ)
     mines_room : length p ≤ length m
     mines_room = omega (arith, facts.position.board.whole, facts.mines_room)
 
-  pub call_sound : SoundCall edgeless rows columns p s m (tested_number r.tested) r.safe r.mines p' s' m'
+  pub call_sound : SoundCall edgeless rows columns p s m (tested_number r) (safe_count r) (mine_count r) p' s' m'
   call_sound =
       let sound = sound_on rule edgeless rows columns p in
-      let zero : tested_number r.tested ≡ 0 → r.tested ≡ Accepted = zero_accepted r.tested in
       record {
-        lists_true = λ n. let a = zero n in lists_are_true near found p s m r p' s' m' sound (safe_room a) (mines_room a) (lists a);
-        only_marked = λ n. let a = zero n in marks_only near found p s m r p' s' m' sound (safe_room a) (mines_room a) (lists a);
-        at_safe = λ n. let a = zero n in fitting_shows_safe near found p s m r p' s' m' sound (safe_room a) (mines_room a) (lists a);
+        lists_true = λ z. lists_are_true near found p s m r p' s' m' sound (safe_room z) (mines_room z) (lists z);
+        only_marked = λ z. marks_only near found p s m r p' s' m' sound (safe_room z) (mines_room z) (lists z);
+        at_safe = λ z. fitting_shows_safe near found p s m r p' s' m' sound (safe_room z) (mines_room z) (lists z);
         all_kept = kept found p s m r p' s' m' tests call;
-        refuses = λ x t. ap tested_number (refused_by_tests found p s m r p' s' m' tests call x t);
-        accepts = λ t layout fit. ap tested_number (accepted found p s m r p' s' m' tests call t (sound.no_contradiction layout fit));
+        refuses = refused_by_tests found p s m r p' s' m' tests call;
+        accepts = λ t layout fit. accepted found p s m r p' s' m' tests call t (sound.no_contradiction layout fit);
       }
 
 -- ---- a call of enumeration, where some layout fits
 
-module _ (edgeless : Bool) (rows columns : ℕ) (p s m : List ℕ) (r : DeductionAnswer) (p' s' m' : List ℕ) where
+module _ (edgeless : Bool) (rows columns : ℕ) (p s m : List ℕ) (r : Result DeductionAnswer Refusal) (p' s' m' : List ℕ) where
   enumerate_call_complete : seen r p' s' m' ≡ deduction (rule_on Enumerate) edgeless rows columns p s m → deduction_tested rows columns p (length s) (length m) ≡ Accepted
       → (layout : List Bool) → Fits (neighbours edgeless rows columns) p layout
-      → CompleteCall (neighbours edgeless rows columns) p (tested_number r.tested) r.safe r.mines s' m'
+      → CompleteCall (neighbours edgeless rows columns) p (tested_number r) (safe_count r) (mine_count r) s' m'
   enumerate_call_complete call tests layout fit =
       let near = neighbours edgeless rows columns in
       let f = rule_on Enumerate (frontier near p) in
@@ -289,7 +281,7 @@ module _ (edgeless : Bool) (rows columns : ℕ) (p s m : List ℕ) (r : Deductio
       let mines_room = mines_room Enumerate edgeless rows columns p s m r p' s' m' call a in
       let g = lists Enumerate edgeless rows columns p s m r p' s' m' call a in
       record {
-        is_accepted = ap tested_number a;
+        is_accepted = a;
         safe_found = λ c d closed is_open beside free.
             front_among (safe_front near f p s m r p' s' m' sound safe_room mines_room g) c (whole.safe_found c d closed is_open beside free);
         mines_found = λ c d closed is_open beside mined.
@@ -297,7 +289,7 @@ module _ (edgeless : Bool) (rows columns : ℕ) (p s m : List ℕ) (r : Deductio
       }
 
   pub call_complete : (rule : Rule) → seen r p' s' m' ≡ deduction (rule_on rule) edgeless rows columns p s m
-      → CompleteBy rule edgeless rows columns p s m (tested_number r.tested) r.safe r.mines s' m'
+      → CompleteBy rule edgeless rows columns p s m (tested_number r) (safe_count r) (mine_count r) s' m'
   call_complete Direct call = tt
   call_complete Minus call = tt
   call_complete Enumerate call = enumerate_call_complete call

@@ -1,60 +1,59 @@
 -- The calls on a position (SPECIFICATION 4.3 and 8): what a caller sees of a rule's answer, refusals first, and the three calls. Assumes nothing.
-use Rattle.std.specs.Prelude.{Err, ◌≡◌, Bool, true, cond, List, [], ℕ, ◌≤◌, length, Ok}
+use Rattle.std.specs.Prelude.{◌≡◌, Bool, cond, List, ℕ, ◌≤◌, length, Result, Ok, Err}
 use Rattle.std.proofs.lemmas.List.Edits.{sets}
 use Rattle.grid.specs.Window.{neighbours}
 use Rattle.refusals.specs.declared.Refusal.{Refusal}
 use Rattle.refusals.specs.declared.Refusal.TheVariants.{Contradiction}
 use Rattle.refusals.specs.Tests.{deduction_tested}
 use Rattle.blocks.specs.Blocks.{Block}
-use Rattle.blocks.specs.BlockSets.{block_set}
+use Rattle.blocks.specs.BlockSets.{block_set, blocks_of}
 use Rattle.frontier.specs.Frontier.{frontier}
 use Rattle.marks.specs.CellLists.{Below}
 use Rattle.marks.specs.Written.{written}
-use Rattle.direct.specs.Found.{Found, contradicted}
+use Rattle.direct.specs.Found.{Found}
 use Rattle.direct.specs.Direct.{direct}
 use Rattle.direct.specs.declared.answer.RuleAnswer.{RuleAnswer}
-use Rattle.direct.specs.Answers.{rule_answer, found_in}
 use Rattle.subtraction.specs.Minus.{subtraction}
 use Rattle.enumeration.specs.Enumeration.{enumerated}
 use Rattle.deductions.specs.declared.answer.DeductionAnswer.{DeductionAnswer}
-use Rattle.refusals.specs.Refusals.{Accepted, Tested}
+use Rattle.refusals.specs.Refusals.{Tested}
 
--- a struct that holds lists of cells below n, which fit into slices of s and m entries, and blocks, and nothing else; a contradiction comes alone
+-- a struct that holds lists of cells below n, which fit into slices of s and m entries, and blocks, and nothing else
 pub record Held (r : RuleAnswer) (n s m : ℕ) : Type 0 where
-  pub is : r ≡ rule_answer (found_in r)
-  pub alone : r.contradiction ≡ true → r ≡ rule_answer contradicted
-  pub room_safe : r.safe.count ≤ s
-  pub room_mines : r.mines.count ≤ m
-  pub safe_below : Below n r.safe
-  pub mines_below : Below n r.mines
+  pub safe_below : Below n r.lists.safe
+  pub mines_below : Below n r.lists.mines
+  pub room_safe : r.lists.safe.count ≤ s
+  pub room_mines : r.lists.mines.count ≤ m
+  pub left_is : r.left ≡ block_set (blocks_of r.left)
 
 -- what the caller sees after the call: the answer, and each slice that was lent
 pub record Seen : Type 0 where
-  pub answer : DeductionAnswer
+  pub answer : Result DeductionAnswer Refusal
   pub position : List ℕ
   pub safe : List ℕ
   pub mines : List ℕ
 
-abbrev pub seen : DeductionAnswer → List ℕ → List ℕ → List ℕ → Seen
+abbrev pub seen : Result DeductionAnswer Refusal → List ℕ → List ℕ → List ℕ → Seen
 seen r p s m = record { answer = r; position = p; safe = s; mines = m }
 
--- a contradiction is refusal 6
-abbrev pub told_by : Bool → Tested
-told_by contradiction = cond contradiction (Err Contradiction) Accepted
+-- the counts of the two lists; a refusal has none
+abbrev pub safe_count : Result DeductionAnswer Refusal → ℕ
+safe_count (Ok a) = a.safe
+safe_count (Err r) = 0
 
--- a refusal: its name alone
-unfoldable pub refused_answer : Refusal → DeductionAnswer
-refused_answer r = record { tested = Err r; safe = 0; mines = 0; blocks = block_set [] }
+abbrev pub mine_count : Result DeductionAnswer Refusal → ℕ
+mine_count (Ok a) = a.mines
+mine_count (Err r) = 0
 
--- and every slice as it was
+-- a refusal: its name alone, and every slice as it was
 abbrev pub refused : Refusal → List ℕ → List ℕ → List ℕ → Seen
-refused r p s m = seen (refused_answer r) p s m
+refused r p s m = seen (Err r) p s m
 
--- the lists, each at the front of its slice; the position with 12 at each safe cell and 11 at each mine, 11 where a cell is in both lists
+-- a contradiction is refusal 6; else the lists, each at the front of its slice; the position with 12 at each safe cell and 11 at each mine, 11 where a cell is in both lists
 unfoldable pub after_found : Found → List ℕ → List ℕ → List ℕ → Seen
 after_found f p s m =
     cond f.contradiction (refused Contradiction p s m)
-    (seen (record { tested = Accepted; safe = length f.safe; mines = length f.mines; blocks = block_set f.left })
+    (seen (Ok (record { safe = length f.safe; mines = length f.mines; blocks = block_set f.left }))
     (written 11 f.mines (written 12 f.safe p))
     (sets s 0 f.safe)
     (sets m 0 f.mines))

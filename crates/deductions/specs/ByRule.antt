@@ -1,6 +1,6 @@
 -- Cited by no public contract. The three calls as one, by their rule: what it makes of blocks, what holds of enumeration besides, and where the call refuses
 -- with 6; and what can be read of any answer. Names as in Calls. Assumes nothing.
-use Rattle.std.specs.Prelude.{Bool, List, ℕ, ◌≤◌, length}
+use Rattle.std.specs.Prelude.{◌≡◌, Bool, List, ℕ, ◌≤◌, length, Ok}
 use Rattle.grid.specs.Window.{neighbours}
 use Rattle.fitting.specs.Layouts.{Fits}
 use Rattle.blocks.specs.Blocks.{Block}
@@ -11,7 +11,8 @@ use Rattle.subtraction.specs.Minus.{subtraction}
 use Rattle.enumeration.specs.Enumeration.{enumerated}
 use Rattle.deductions.specs.declared.Rule.{Rule}
 use Rattle.deductions.specs.declared.Rule.TheVariants.{Direct, Minus, Enumerate}
-use Rattle.deductions.specs.Answers.{Seen}
+use Rattle.deductions.specs.declared.answer.DeductionAnswer.{DeductionAnswer}
+use Rattle.deductions.specs.Answers.{Seen, safe_count, mine_count}
 use Rattle.deductions.specs.Calls.{CompleteCall}
 use Rattle.deductions.specs.Contradictions.{TestsPass, DirectRefuses, MinusRefuses, EnumerateRefuses}
 
@@ -37,6 +38,6 @@ RefusesBy Enumerate = EnumerateRefuses
 
 -- what can be read of an answer: the counts are within the lists, and the blocks are whole
 pub record Readable (w : Seen) : Type 0 where
-  pub safe_within : w.answer.safe ≤ length w.safe
-  pub mines_within : w.answer.mines ≤ length w.mines
-  pub blocks_whole : Whole w.answer.blocks
+  pub safe_within : safe_count w.answer ≤ length w.safe
+  pub mines_within : mine_count w.answer ≤ length w.mines
+  pub blocks_whole : {a : DeductionAnswer} → w.answer ≡ Ok a → Whole a.blocks

@@ -3,8 +3,10 @@ use mathlib.Core.Path.{◌≡◌, sym, subst}
 use mathlib.Core.List.{List, [], ◌∷◌}
 use Prim.Native.Nat.{ℕ}
 use lib.ListN.{take}
-use Rattle.refusals.specs.Refusals.{Tested}
-use Rattle.deductions.specs.Answers.{Seen}
+use Rattle.std.specs.Prelude.{Result}
+use Rattle.refusals.specs.declared.Refusal.{Refusal}
+use Rattle.deductions.specs.declared.answer.DeductionAnswer.{DeductionAnswer}
+use Rattle.deductions.specs.Answers.{Seen, safe_count, mine_count}
 use Rattle.deductions.specs.declared.Rule.{Rule}
 use Rattle.text.specs.declared.Text.{Text}
 use Rattle.text.specs.Text.{Wrote}
@@ -15,16 +17,16 @@ use Rattle.rule_lines.specs.Deductions.{found_text, text_after, deduction_text}
 
 -- what a rule found
 pub found_written : {before safe safe_list mine mine_list word after : Text} (w : Seen)
-    → Wrote before safe (115 ∷ 97 ∷ 102 ∷ 101 ∷ 32 ∷ []) → Wrote safe safe_list (numbers_text (take w.answer.safe w.safe))
-    → Wrote safe_list mine (32 ∷ 109 ∷ 105 ∷ 110 ∷ 101 ∷ 32 ∷ []) → Wrote mine mine_list (numbers_text (take w.answer.mines w.mines))
+    → Wrote before safe (115 ∷ 97 ∷ 102 ∷ 101 ∷ 32 ∷ []) → Wrote safe safe_list (numbers_text (take (safe_count w.answer) w.safe))
+    → Wrote safe_list mine (32 ∷ 109 ∷ 105 ∷ 110 ∷ 101 ∷ 32 ∷ []) → Wrote mine mine_list (numbers_text (take (mine_count w.answer) w.mines))
     → Wrote mine_list word (32 ∷ 112 ∷ 111 ∷ 115 ∷ []) → Wrote word after (cells_text w.position)
     → Wrote before after (found_text w)
 unfolding found_text
 found_written w first firsts second seconds third thirds =
     wrote_both (wrote_both first firsts) (wrote_both (wrote_both second seconds) (wrote_both third thirds))
 
--- what its caller sees, by the answer of the tests
-pub deduction_written : {before after : Text} {t : Tested} (rule : Rule) (w : Seen) → w.answer.tested ≡ t
-    → Wrote before after (text_after rule t w) → Wrote before after (deduction_text rule w)
+-- what its caller sees, by the answer
+pub deduction_written : {before after : Text} {r : Result DeductionAnswer Refusal} (rule : Rule) (w : Seen) → w.answer ≡ r
+    → Wrote before after (text_after rule r w) → Wrote before after (deduction_text rule w)
 unfolding deduction_text
-deduction_written {before} {after} rule w e h = subst (λ (x : Tested). Wrote before after (text_after rule x w)) (sym e) h
+deduction_written {before} {after} rule w e h = subst (λ (x : Result DeductionAnswer Refusal). Wrote before after (text_after rule x w)) (sym e) h

@@ -1,11 +1,13 @@
 -- Cited by no public contract. The answers of the calls that deduce to a line: `safe 1,5 mine 5 pos 0 12 0 1 1 11`, behind it the blocks left, ` blocks 0`,
 -- where the rule hands them out; `refused 6`, or `unreadable`. Each list that is lent has room for 1024 cells. Assumes nothing.
-use Rattle.std.specs.Prelude.{Err, Bool, true, false, cond, List, [], ◌∷◌, ◌++◌, ℕ, take, replicate, Ok}
+use Rattle.std.specs.Prelude.{Result, Err, Bool, true, false, cond, List, [], ◌∷◌, ◌++◌, ℕ, take, replicate, Ok}
 use Rattle.grid.specs.Window.{flat}
-use Rattle.refusals.specs.Refusals.{Accepted, Tested, refusal_number}
+use Rattle.refusals.specs.declared.Refusal.{Refusal}
+use Rattle.refusals.specs.Refusals.{refusal_number}
 use Rattle.blocks.specs.declared.BlockSet.{BlockSet}
 use Rattle.blocks.specs.BlockSets.{blocks_of}
-use Rattle.deductions.specs.Answers.{Seen, deduction}
+use Rattle.deductions.specs.declared.answer.DeductionAnswer.{DeductionAnswer}
+use Rattle.deductions.specs.Answers.{Seen, safe_count, mine_count, deduction}
 use Rattle.deductions.specs.ByRule.{rule_on}
 use Rattle.deductions.specs.declared.Rule.{Rule}
 use Rattle.deductions.specs.declared.Rule.TheVariants.{Direct, Minus, Enumerate}
@@ -29,7 +31,7 @@ position_text p = (32 ∷ 112 ∷ 111 ∷ 115 ∷ []) ++ cells_text p
 
 -- the three, one after another
 unfoldable pub found_text : Seen → List ℕ
-found_text w = safe_text (take w.answer.safe w.safe) ++ (mine_text (take w.answer.mines w.mines) ++ position_text w.position)
+found_text w = safe_text (take (safe_count w.answer) w.safe) ++ (mine_text (take (mine_count w.answer) w.mines) ++ position_text w.position)
 
 -- does a rule leave blocks? enumeration does not
 abbrev pub leaves_blocks : Rule → Bool
@@ -41,13 +43,13 @@ leaves_blocks Enumerate = false
 abbrev pub left_text : Rule → BlockSet → List ℕ
 left_text rule set = cond (leaves_blocks rule) (32 ∷ blocks_text (blocks_of set)) []
 
-abbrev pub text_after : Rule → Tested → Seen → List ℕ
+abbrev pub text_after : Rule → Result DeductionAnswer Refusal → Seen → List ℕ
 text_after rule (Err r) w = refused_text (refusal_number r)
-text_after rule (Ok _) w = found_text w ++ left_text rule w.answer.blocks
+text_after rule (Ok a) w = found_text w ++ left_text rule a.blocks
 
 -- what the caller of a rule sees, as text
 unfoldable pub deduction_text : Rule → Seen → List ℕ
-deduction_text rule w = text_after rule w.answer.tested w
+deduction_text rule w = text_after rule w.answer w
 
 -- what the caller of a rule sees of a line's position
 abbrev pub called_on : Rule → Line → Seen

@@ -2,6 +2,7 @@
 // hands them out.
 #![tactic(auto)]
 
+ghost use Rattle.std.specs.Prelude.{Ok};
 ghost use Rattle.blocks.specs.BlockSets.{Whole};
 ghost use Rattle.deductions.specs.Answers.{seen};
 ghost use Rattle.deductions.specs.ByRule.{Readable};
@@ -11,8 +12,9 @@ ghost use Rattle.rule_lines.specs.Deductions.{found_text, left_text, deduction_t
 use blocks::BlockSet;
 use deductions::answer::DeductionAnswer;
 use deductions::{Rule, deduce};
-use grid::window::FLAT;
+use grid::window::Size;
 use lines::{put_unreadable, read_line};
+use refusals::Refusal;
 use show::{put_blocks, put_cells, put_numbers, put_refused};
 use text::Text;
 
@@ -24,8 +26,8 @@ fn put_found(
     safe: &[u16],
     mines: &[u16],
 )
-    requires { Readable (seen answer.now position.now safe.now mines.now) }
-    ensures { Wrote out.old out.new (found_text (seen answer.now position.now safe.now mines.now)) }
+    requires { Readable (seen (Ok answer.now) position.now safe.now mines.now) }
+    ensures { Wrote out.old out.new (found_text (seen (Ok answer.now) position.now safe.now mines.now)) }
 {
     out.bytes(b"safe ");
     put_numbers(out, &safe[..answer.safe]);
@@ -53,20 +55,19 @@ fn put_left(out: &mut Text<'_>, rule: Rule, left: &BlockSet)
 fn put_deduction(
     out: &mut Text<'_>,
     rule: Rule,
-    answer: &DeductionAnswer,
+    answer: Result<DeductionAnswer, Refusal>,
     position: &[u8],
     safe: &[u16],
     mines: &[u16],
 )
-    requires { Readable (seen answer.now position.now safe.now mines.now) }
-    ensures { Wrote out.old out.new (deduction_text rule (seen answer.now position.now safe.now mines.now)) }
+    requires { Readable (seen answer position.now safe.now mines.now) }
+    ensures { Wrote out.old out.new (deduction_text rule (seen answer position.now safe.now mines.now)) }
 {
-    let tested = answer.tested;
-    match tested {
+    match answer {
         Err(refusal) => put_refused(out, refusal),
-        Ok(()) => {
-            put_found(out, answer, position, safe, mines);
-            put_left(out, rule, &answer.blocks);
+        Ok(found) => {
+            put_found(out, &found, position, safe, mines);
+            put_left(out, rule, &found.blocks);
         }
     }
 }
@@ -82,14 +83,7 @@ pub fn deduction_line(rule: Rule, line: &[u8], out: &mut Text<'_>)
     let position = &mut cells[..read.len];
     let mut safe = [0u16; 1024];
     let mut mines = [0u16; 1024];
-    let answer = deduce(
-        rule,
-        FLAT,
-        read.rows,
-        read.columns,
-        position,
-        &mut safe,
-        &mut mines,
-    );
-    put_deduction(out, rule, &answer, position, &safe, &mines);
+    let size = Size::flat(read.rows, read.columns);
+    let answer = deduce(rule, size, position, &mut safe, &mut mines);
+    put_deduction(out, rule, answer, position, &safe, &mines);
 }

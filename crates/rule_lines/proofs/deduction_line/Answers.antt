@@ -30,4 +30,4 @@ put_deduction-requires c = rw c.deduce-answer.ensures.mines_after (call_readable
 
 pub returns : goal.returns
 unfolding deduction_line
-returns c = rw (read (goal.at.returns c).In-Some, ← c.deduce-answer.ensures.mines_after) c.put_deduction.ensures
+returns c = let told = rw c.flat-size.ensures at c.deduce-answer.ensures.mines_after in rw (read (goal.at.returns c).In-Some, ← told) c.put_deduction.ensures
