@@ -40,10 +40,7 @@ pub fn count_block(grouped: &Grouped, allowed: &[u8; 1025], first: usize, met: &
         return told;
     }
     let order = own_order(grouped.groups);
-    let mut unmet = Unmet {
-        needs: grouped.needs,
-        rooms: grouped.rooms,
-    };
+    let mut unmet = Unmet::at_first(grouped);
     let walk = Walk {
         grouped,
         order: &order,

@@ -1,14 +1,14 @@
 -- The tree of the search, step by step, as the code takes them: no group left, and the values of the first unset group from 0 on. Every row has a value for each
 -- unset group. Assumes nothing.
-use mathlib.Core.Path.{◌≡◌, sym, ap, ◌∙◌}
+use mathlib.Core.Path.{◌≡◌, ap, ◌∙◌}
 use mathlib.Core.Bool.{Bool, true, false, cond}
 use mathlib.Core.List.Memᴰ
-use mathlib.Core.List.{List, [], ◌∷◌, ◌++◌, map}
-use Prim.Native.Nat.{ℕ, suc, ◌+◌, ◌-◌, ◌≤◌, ◌<◌}
+use mathlib.Core.List.{List, [], ◌∷◌, map}
+use Prim.Native.Nat.{ℕ, suc, ◌+◌, ◌-◌}
 use native.Mathlib.Omega.{arith}
 use lib.Dec.{eqb}
 use lib.ListN.{length, get_or}
-use Rattle.lists.specs.Lists.{range, all, joined}
+use Rattle.lists.specs.Lists.{range, all}
 use Rattle.blocks.specs.BlockSets.{slot_cells}
 use Rattle.lists.proofs.PassingElements.{Each, each_mapped, each_joined}
 use Rattle.search.specs.Trees.{lowered, possible, branches, tree}

@@ -9,6 +9,7 @@ use native.Mathlib.Omega.{arith}
 use lib.Dec.{eqb}
 use lib.ListN.{length, get_or, take, drop, set, length-set, get_or-eq_default}
 use lib.Seq.{get_or-drop, get_or-set_same}
+use Rattle.std.specs.List.{list_all}
 use Rattle.std.proofs.lemmas.List.{take-append-drop}
 use Rattle.lists.specs.Lists.{all, nodup}
 use Rattle.lists.proofs.All.{all_append}
@@ -22,6 +23,11 @@ module _ {r l : List ℕ} (f : ℕ → Bool) (x : ℕ) (more : l ≡ x ∷ r) wh
 
   pub rest_passes : f x ≡ true → all f l ≡ all f r
   rest_passes h = ap (all f) more ∙ rw h
+
+-- what an iterator over a list tests
+pub all_listed : (f : ℕ → Bool) (l : List ℕ) → list_all f l ≡ all f l
+all_listed f [] = refl
+all_listed f (x ∷ l) = rw (all_listed f l)
 
 -- ---- zeros from a place on
 

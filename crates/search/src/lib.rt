@@ -2,10 +2,10 @@
 // call each other, and the number of unset groups falls. What the equations still need is lowered on the way down and raised again on the way up.
 #![tactic(auto)]
 
-ghost use Rattle.std.specs.Prelude.{◌≡◌, true, ℕ, suc, ◌-◌, ◌≤◌, ◌<◌, leb, eqb, length, get_or, take};
+ghost use Rattle.std.specs.Prelude.{◌≡◌, true, ℕ, suc, ◌-◌, ◌≤◌, ◌<◌, leb, eqb, length, get_or};
 ghost use mathlib.Core.List.{map, Memᴰ};
 ghost use Rattle.lists.specs.Lists.{all, nodup};
-ghost use Rattle.blocks.specs.Places.{OnBoard};
+ghost use Rattle.blocks.specs.Places.{cells_in, OnBoard};
 ghost use Rattle.search.specs.Trees.{lowered, possible as isPossible};
 ghost use Rattle.search.specs.Searching.{raised, Kept, OrderOf, StateOf, unset_of, tree_of, tree_of_values};
 
@@ -21,11 +21,21 @@ pub struct Unmet {
 }
 
 impl Unmet {
+    // What is unmet before a group is set.
+    pub fn at_first(grouped: &Grouped) -> Self
+        ensures { (result.needs ≡ grouped.now.needs) × (result.rooms ≡ grouped.now.rooms) }
+    {
+        Unmet {
+            needs: grouped.needs,
+            rooms: grouped.rooms,
+        }
+    }
+
     // Can the equations of a list take v mines in a group of so many cells?
     pub fn possible(&self, list: UpToEight, size: u8, v: u8) -> bool
         requires on_board { OnBoard list }
         requires size_bound { (size ≤ 8) × (v ≤ 8) × ((e : ℕ) → get_or self.now.needs e 0 ≤ 8) × ((e : ℕ) → get_or self.now.rooms e 0 ≤ 8) }
-        ensures { result ≡ isPossible size (take list.len list.cells) self.now.needs self.now.rooms v }
+        ensures { result ≡ isPossible size (cells_in list) self.now.needs self.now.rooms v }
     {
         for &place in list.as_slice() {
             let e = wide(place);
@@ -42,11 +52,11 @@ impl Unmet {
     // A group of so many cells, in the equations of a list, gets v mines: each needs so many less, and has so many unset cells less.
     pub fn set_group(&mut self, list: UpToEight, size: u8, v: u8)
         requires on_board { OnBoard list }
-        requires once { nodup (take list.len list.cells) ≡ true }
-        requires enough_needs { all (λ e. leb v (get_or self.old.needs e 0)) (take list.len list.cells) ≡ true }
-        requires enough_rooms { all (λ e. leb size (get_or self.old.rooms e 0)) (take list.len list.cells) ≡ true }
-        ensures needs_after { self.new.needs ≡ lowered v (take list.len list.cells) self.old.needs }
-        ensures rooms_after { self.new.rooms ≡ lowered size (take list.len list.cells) self.old.rooms }
+        requires once { nodup (cells_in list) ≡ true }
+        requires enough_needs { all (λ e. leb v (get_or self.old.needs e 0)) (cells_in list) ≡ true }
+        requires enough_rooms { all (λ e. leb size (get_or self.old.rooms e 0)) (cells_in list) ≡ true }
+        ensures needs_after { self.new.needs ≡ lowered v (cells_in list) self.old.needs }
+        ensures rooms_after { self.new.rooms ≡ lowered size (cells_in list) self.old.rooms }
     {
         for &place in list.as_slice() {
             let e = wide(place);
@@ -59,8 +69,8 @@ impl Unmet {
     pub fn unset_group(&mut self, list: UpToEight, size: u8, v: u8)
         requires on_board { OnBoard list }
         requires size_bound { (size ≤ 8) × (v ≤ 8) × ((e : ℕ) → get_or self.old.needs e 0 ≤ 8) × ((e : ℕ) → get_or self.old.rooms e 0 ≤ 8) }
-        ensures needs_after { self.new.needs ≡ raised v (take list.len list.cells) self.old.needs }
-        ensures rooms_after { self.new.rooms ≡ raised size (take list.len list.cells) self.old.rooms }
+        ensures needs_after { self.new.needs ≡ raised v (cells_in list) self.old.needs }
+        ensures rooms_after { self.new.rooms ≡ raised size (cells_in list) self.old.rooms }
     {
         for &place in list.as_slice() {
             let e = wide(place);
@@ -74,12 +84,7 @@ impl Unmet {
         requires { (equations ≤ 1024) × ((e : ℕ) → equations ≤ e → get_or self.now.needs e 0 ≡ 0) }
         ensures { result ≡ all (λ n. eqb n 0) self.now.needs }
     {
-        for &need in &self.needs[..equations] {
-            if need != 0 {
-                return false;
-            }
-        }
-        true
+        self.needs[..equations].iter().all(|&need| need == 0)
     }
 }
 

@@ -29,9 +29,10 @@ walk-requires c =
     let (b, k, is) = c.requires.combinable in
     let r = c.args.grouped.now in
     let met = c.args.met.now in
+    let unmet = c.at_first-unmet.ensures in
     record {
       at_le_groups = (omega arith, start_fits b k r is order.result order.ensures);
-      underway = start_walk b k r is order.result order.ensures c.args.allowed.now c.args.first met.tags met.keys met.results c.requires.tags_len;
+      underway = rw (unmet.0, unmet.1) (start_walk b k r is order.result order.ensures c.args.allowed.now c.args.first met.tags met.keys met.results c.requires.tags_len);
     }
 
 pub returns : goal.returns
@@ -41,8 +42,9 @@ returns c =
     let r = c.args.grouped.now in
     let met = c.args.met.now in
     let (course, underway, begun) = start_walk b k r is order.result order.ensures c.args.allowed.now c.args.first met.tags met.keys met.results c.requires.tags_len in
-    let right = c.walk.ensures.right course underway begun in
+    let unmet = c.at_first-unmet.ensures in
+    let right = c.walk.ensures.right course (rw (unmet.0, unmet.1) underway) begun in
     record {
-      counted_by = λ b k is. counted_walked b k r is order.result order.ensures c.if-grouped.false c.walk.ensures.walked;
+      counted_by = λ b k is. counted_walked b k r is order.result order.ensures c.if-grouped.false (rw (unmet.0, unmet.1) at c.walk.ensures.walked);
       tags_len_2 = (right.whole.0, right.whole.1, right.whole.2, right.below);
     }

@@ -1,15 +1,16 @@
--- `Unmet::all_met` meets its contract. The loop's invariant: the needs still to be looked at are all 0 exactly if those of all equations are. Past the
--- equations they are. Assumes nothing.
+-- `Unmet::all_met` meets its contract: the iterator tests the needs of the equations, and past the equations they are 0. Assumes nothing.
 use mathlib.Core.Path.{◌∙◌}
-use native.Mathlib.Omega.{arith}
+use borrow.Author.Rules.{rules}
+use borrow.Author.Tests.{tests}
 use lib.Dec.{eqb}
 use lib.ListN.{take}
-use Rattle.lists.proofs.Loops.{all_done}
-use Rattle.search.proofs.ListLaws.{zeros_before}
+use Rattle.std.proofs.lemmas.Iterator.{YieldsList-from_slice}
+use Rattle.std.proofs.lemmas.Iterator.Search.{all_from_yields_List}
+use Rattle.search.proofs.ListLaws.{all_listed, zeros_before}
 use Rattle.search.proofs.Unmet.all_met.Goals as goal
 
 pub returns : goal.returns
 returns c =
     let needs = c.args.self.now.needs in
-    all_done (λ n. eqb n 0) (take c.args.equations needs) c.loop-need.need-index (omega (arith, c.loop-need-test.false)) c.loop-need.invariant
-    ∙ zeros_before needs c.args.equations c.requires.1
+    let few = take c.args.equations needs in
+    all_from_yields_List (λ n. eqb n 0) _ _ _ c.all.ensures.ran (YieldsList-from_slice few cc) (λ x b q k. search (rules, tests)) ∙ all_listed (λ n. eqb n 0) few ∙ zeros_before needs c.args.equations c.requires.1
