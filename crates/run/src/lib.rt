@@ -251,13 +251,13 @@ pub fn answer_part(input: &[u8], ended: bool, number: usize, out: &mut [u8]) -> 
     ensures progress { Progress input.now ended number out.old result }
 {
     let mut part = nothing_yet(number, RunState::GoesOn);
-    let mut more = true;
-    while more {
+    loop {
         let one = answer_from(input, part.read, ended, part.next, out, part.len);
         part = part_sum(part, one);
-        more = is_another(one);
+        if !is_another(one) {
+            return part;
+        }
     }
-    part
 }
 
 // A run that has not begun: the header is its next line.
