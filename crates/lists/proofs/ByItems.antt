@@ -6,9 +6,12 @@ use mathlib.Core.List.{List, [], ◌∷◌, ◌++◌, append-nil}
 use Prim.Native.Nat.{ℕ, ◌+◌, ◌≤◌, ◌<◌}
 use native.Mathlib.Omega.{arith}
 use lib.ListN.{length, get_or, take, set, length-take, length-append}
+use lib.Dec.{eqb}
+use borrow.Author.Tests.{eqb-true, eq-eqb}
 use Rattle.std.specs.List.{list_any}
 use Rattle.std.proofs.lemmas.List.{take_more}
-use Rattle.lists.specs.Lists.{bit, keep, count, any, pad}
+use Rattle.lists.specs.Lists.{bit, keep, count, any, has, pad}
+use Rattle.lists.proofs.Tests.{same_test}
 use Rattle.lists.proofs.Counts.{count_append, count_le, length_keep}
 use Rattle.lists.proofs.Kept.{keep_append}
 use Rattle.lists.proofs.Arrays.{pad_push}
@@ -44,3 +47,8 @@ kept_few l k f = omega (arith, length_keep f (take k l), count_le f (take k l), 
 pub any_listed : (f : ℕ → Bool) (l : List ℕ) → list_any f l ≡ any f l
 any_listed f [] = refl
 any_listed f (x ∷ l) = rw (any_listed f l)
+
+-- std's `contains`
+pub has_listed : (c : ℕ) (l : List ℕ) → list_any (λ x. eqb x c) l ≡ has l c
+has_listed c [] = refl
+has_listed c (x ∷ l) = rw (same_test (eqb x c) (eqb c x) (λ h. eq-eqb c x (sym (eqb-true x c h))) (λ h. eq-eqb x c (sym (eqb-true c x h))), has_listed c l)

@@ -20,11 +20,11 @@ use Rattle.subtraction.specs.Pairs.{Subtracts}
 use Rattle.subtraction.proofs.ReadyBlocks.{mines_room, safe_room}
 use Rattle.subtraction.proofs.SetPlaces.{any_places, joined_back, cells_at, equations_at}
 use Rattle.subtraction.proofs.Pairs.{mines_of, safe_of, mines_in, safe_in}
-use Rattle.subtraction.proofs.MinusMarks.{none_marked, marked_mines, marked_safe, marks_left, equations_left}
+use Rattle.subtraction.proofs.MinusMarks.{marked_mines, marked_safe, marks_left, equations_left}
 
 module _ (s : BlockSet) (w : Whole s) (ready : Ready (blocks_of s)) (mines safe : List ℕ)
-    (mines_told : (d : ℕ) → marked mines d ≡ (marked (replicate 1024 0) d || any (mines_in s.slots s.rests s.equation_ends d) (range 0 s.blocks)))
-    (safe_told : (d : ℕ) → marked safe d ≡ (marked (replicate 1024 0) d || any (safe_in s.slots s.rests s.equation_ends d) (range 0 s.blocks))) where
+    (mines_told : (d : ℕ) → marked mines d ≡ any (mines_in s.slots s.rests s.equation_ends d) (range 0 s.blocks))
+    (safe_told : (d : ℕ) → marked safe d ≡ any (safe_in s.slots s.rests s.equation_ends d) (range 0 s.blocks)) where
   abbrev bs : List Block
   bs = blocks_of s
 
@@ -32,16 +32,14 @@ module _ (s : BlockSet) (w : Whole s) (ready : Ready (blocks_of s)) (mines safe 
   mines_are : (d : ℕ) → marked mines d ≡ any (λ (q : Block). mines_of q.equations d) bs
   mines_are d =
       mines_told d
-      ∙ rw (none_marked 1024 d)
-      (any_places s w (λ (q : Block). mines_of q.equations d) (mines_in s.slots s.rests s.equation_ends d)
-      (λ b h. ap (λ (es : List BlockEquation). mines_of es d) (equations_at s w b h)))
+      ∙ any_places s w (λ (q : Block). mines_of q.equations d) (mines_in s.slots s.rests s.equation_ends d)
+      (λ b h. ap (λ (es : List BlockEquation). mines_of es d) (equations_at s w b h))
 
   safe_are : (d : ℕ) → marked safe d ≡ any (λ (q : Block). safe_of q.equations d) bs
   safe_are d =
       safe_told d
-      ∙ rw (none_marked 1024 d)
-      (any_places s w (λ (q : Block). safe_of q.equations d) (safe_in s.slots s.rests s.equation_ends d)
-      (λ b h. ap (λ (es : List BlockEquation). safe_of es d) (equations_at s w b h)))
+      ∙ any_places s w (λ (q : Block). safe_of q.equations d) (safe_in s.slots s.rests s.equation_ends d)
+      (λ b h. ap (λ (es : List BlockEquation). safe_of es d) (equations_at s w b h))
 
   -- so the marked cells are the rule's own lists
   mines_listed : all_with mines s.cells s.cell_ends s.blocks ≡ from_last minus_mines bs

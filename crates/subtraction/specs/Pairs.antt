@@ -4,6 +4,9 @@ use Rattle.std.specs.Prelude.{◌≡◌, Bool, true, ◌&&◌, List, ◌++◌, �
 use Rattle.lists.specs.Lists.{any, nodup}
 use Rattle.blocks.specs.Blocks.{Block, BlockEquation}
 use Rattle.blocks.specs.BlockSets.{all_equations, slot_cells}
+use Rattle.blocks.specs.Places.{equations_from}
+use Rattle.blocks.specs.declared.BlockSet.{BlockSet}
+use Rattle.blocks.specs.declared.Bounds.{Bounds}
 use Rattle.marks.specs.Marked.{left_equations, left_blocks}
 use Rattle.marks.specs.CellLists.{cell_list}
 use Rattle.direct.specs.Direct.{sure_mines, sure_safe, from_last}
@@ -19,6 +22,10 @@ minus_lists bs = lists_of (from_last minus_safe bs ++ sure_safe (left_of bs)) (f
 -- the equation at a place
 abbrev pub equation_in : List ℕ → List ℕ → ℕ → BlockEquation
 equation_in slots rests e = record { cells = slot_cells slots e; rest = get_or rests e 0 }
+
+-- the equations of a block of the set
+abbrev pub equations_between : BlockSet → Bounds → List BlockEquation
+equations_between set bounds = equations_from set.slots set.rests bounds.first_equation bounds.end_equation
 
 -- before a place no equation has a cell twice
 pub record Once (slots : List ℕ) (end : ℕ) : Type 0 where

@@ -8,15 +8,15 @@ pub mod own;
 ghost use Rattle.std.specs.Prelude.{◌≡◌, true, ◌||◌, ℕ, ◌≤◌, ◌<◌, length, get_or, IfOk};
 ghost use Rattle.lists.specs.Lists.{range, any, all, has};
 ghost use Rattle.blocks.specs.Blocks.{BlockEquation};
-ghost use Rattle.blocks.specs.BlockSets.{blocks_of, begin_at, small_equation, Whole};
-ghost use Rattle.blocks.specs.Places.{marked, Slots, equations_from};
+ghost use Rattle.blocks.specs.BlockSets.{blocks_of, small_equation, Whole};
+ghost use Rattle.blocks.specs.Places.{marked, Slots, bounds_of, equations_from};
 ghost use Rattle.marks.specs.Marked.{Ready, left_equations};
 ghost use Rattle.direct.specs.Answers.{rule_answer, swept_lists};
 ghost use Rattle.direct.specs.declared.answer.RuleAnswer.{RuleAnswer};
 ghost use Rattle.subtraction.specs.Minus.{own_cells, some_pair, subtraction};
-ghost use Rattle.subtraction.specs.Pairs.{Once, equation_in, some_other, Subtracts, minus_lists};
+ghost use Rattle.subtraction.specs.Pairs.{Once, equation_in, equations_between, some_other, Subtracts, minus_lists};
 
-use blocks::{BlockSet, begin_at, marks_of, slots_at};
+use blocks::{BlockSet, Bounds, marks_of, slots_at};
 use chunks::chunk_matrixes;
 use direct::answer::{Contradiction, Lists, RuleAnswer};
 use direct::direct::{direct_rule, swept_cells};
@@ -26,85 +26,68 @@ use marks::listing::list_blocks;
 use marks::{count_marked, marked_in_one};
 use own::mark_own;
 
+// What pairs of equations mark: mines, and safe cells.
+#[derive(Drop)]
+pub struct PairMarks {
+    pub mines: [u8; 1024],
+    pub safe: [u8; 1024],
+}
+
 // Holds one equation against each of its block: marks the mines and the safe cells that follow.
-fn subtract_from(
-    slots: &[u16; 8192],
-    rests: &[u8; 1024],
-    first: usize,
-    end: usize,
-    e: usize,
-    mines: &mut [u8; 1024],
-    safe: &mut [u8; 1024],
-)
-    requires slots { Slots slots.now end × Once slots.now end }
-    requires e_lt_end { e < end }
-    requires mines_len { (length mines.old ≡ 1024) × (length safe.old ≡ 1024) }
-    ensures mines_len_2 { (length mines.new ≡ 1024) × (length safe.new ≡ 1024) }
-    ensures by_index { (d : ℕ) → marked mines.new d ≡ (marked mines.old d
-        || some_other (λ (x : BlockEquation). λ (y : BlockEquation). has (own_cells x y) d) (equation_in slots.now rests.now e) (equations_from slots.now rests.now first end)) }
-    ensures by_index_2 { (d : ℕ) → marked safe.new d ≡ (marked safe.old d
-        || some_other (λ (x : BlockEquation). λ (y : BlockEquation). has (own_cells y x) d) (equation_in slots.now rests.now e) (equations_from slots.now rests.now first end)) }
+fn subtract_from(set: &BlockSet, bounds: Bounds, e: usize, marks: &mut PairMarks)
+    requires slots { Slots set.now.slots bounds.end_equation × Once set.now.slots bounds.end_equation }
+    requires inside { e < bounds.end_equation }
+    ensures mines { (d : ℕ) → marked marks.new.mines d ≡ (marked marks.old.mines d
+        || some_other (λ (x : BlockEquation). λ (y : BlockEquation). has (own_cells x y) d) (equation_in set.now.slots set.now.rests e) (equations_between set.now bounds)) }
+    ensures safe { (d : ℕ) → marked marks.new.safe d ≡ (marked marks.old.safe d
+        || some_other (λ (x : BlockEquation). λ (y : BlockEquation). has (own_cells y x) d) (equation_in set.now.slots set.now.rests e) (equations_between set.now bounds)) }
 {
-    let list = slots_at(slots, e);
+    let list = slots_at(&set.slots, e);
     let len = list.len;
     let own = marks_of(list);
-    let rest = wide_byte(rests[e]);
-    for f in first..end {
-        let other = slots_at(slots, f);
+    let rest = wide_byte(set.rests[e]);
+    for f in bounds.first_equation..bounds.end_equation {
+        let other = slots_at(&set.slots, f);
         let shared = count_marked(&own, other);
         if 0 < shared {
-            if rest + shared == wide_byte(rests[f]) + len {
-                mark_own(list, other, mines);
-                mark_own(other, list, safe);
+            if rest + shared == wide_byte(set.rests[f]) + len {
+                mark_own(list, other, &mut marks.mines);
+                mark_own(other, list, &mut marks.safe);
             }
         }
     }
 }
 
-// All ordered pairs of equations between two places.
-fn subtract_pairs(
-    slots: &[u16; 8192],
-    rests: &[u8; 1024],
-    first: usize,
-    end: usize,
-    mines: &mut [u8; 1024],
-    safe: &mut [u8; 1024],
-)
-    requires slots { Slots slots.now end × Once slots.now end }
-    requires mines_len { (length mines.old ≡ 1024) × (length safe.old ≡ 1024) }
-    ensures mines_len_2 { (length mines.new ≡ 1024) × (length safe.new ≡ 1024) }
-    ensures by_index { (d : ℕ) → marked mines.new d ≡ (marked mines.old d
-        || some_pair (λ (x : BlockEquation). λ (y : BlockEquation). has (own_cells x y) d) (equations_from slots.now rests.now first end)) }
-    ensures by_index_2 { (d : ℕ) → marked safe.new d ≡ (marked safe.old d
-        || some_pair (λ (x : BlockEquation). λ (y : BlockEquation). has (own_cells y x) d) (equations_from slots.now rests.now first end)) }
+// All ordered pairs of equations of a block.
+fn subtract_pairs(set: &BlockSet, bounds: Bounds, marks: &mut PairMarks)
+    requires { Slots set.now.slots bounds.end_equation × Once set.now.slots bounds.end_equation }
+    ensures mines { (d : ℕ) → marked marks.new.mines d ≡ (marked marks.old.mines d
+        || some_pair (λ (x : BlockEquation). λ (y : BlockEquation). has (own_cells x y) d) (equations_between set.now bounds)) }
+    ensures safe { (d : ℕ) → marked marks.new.safe d ≡ (marked marks.old.safe d
+        || some_pair (λ (x : BlockEquation). λ (y : BlockEquation). has (own_cells y x) d) (equations_between set.now bounds)) }
 {
-    for e in first..end {
-        subtract_from(slots, rests, first, end, e, mines, safe);
+    for e in bounds.first_equation..bounds.end_equation {
+        subtract_from(set, bounds, e, marks);
     }
 }
 
 // The pairs of each block.
-fn subtract_blocks(
-    slots: &[u16; 8192],
-    rests: &[u8; 1024],
-    ends: &[u16; 1024],
-    blocks: usize,
-    mines: &mut [u8; 1024],
-    safe: &mut [u8; 1024],
-)
-    requires blocks_bound { blocks ≤ 1024 }
-    requires by_index { (b : ℕ) → b < blocks → Slots slots.now (get_or ends.now b 0) × Once slots.now (get_or ends.now b 0) }
-    requires mines_len { (length mines.old ≡ 1024) × (length safe.old ≡ 1024) }
-    ensures mines_len_2 { (length mines.new ≡ 1024) × (length safe.new ≡ 1024) }
-    ensures by_index_2 { (d : ℕ) → marked mines.new d ≡ (marked mines.old d
-        || any (λ (b : ℕ). some_pair (λ (x : BlockEquation). λ (y : BlockEquation). has (own_cells x y) d) (equations_from slots.now rests.now (begin_at ends.now b) (get_or ends.now b 0))) (range 0 blocks)) }
-    ensures by_index_3 { (d : ℕ) → marked safe.new d ≡ (marked safe.old d
-        || any (λ (b : ℕ). some_pair (λ (x : BlockEquation). λ (y : BlockEquation). has (own_cells y x) d) (equations_from slots.now rests.now (begin_at ends.now b) (get_or ends.now b 0))) (range 0 blocks)) }
+fn subtract_blocks(set: &BlockSet) -> PairMarks
+    requires few { set.now.blocks ≤ 1024 }
+    requires slots { (b : ℕ) → b < set.now.blocks → Slots set.now.slots (get_or set.now.equation_ends b 0) × Once set.now.slots (get_or set.now.equation_ends b 0) }
+    ensures mines { (d : ℕ) → marked result.mines d
+        ≡ any (λ (b : ℕ). some_pair (λ (x : BlockEquation). λ (y : BlockEquation). has (own_cells x y) d) (equations_between set.now (bounds_of set.now b))) (range 0 set.now.blocks) }
+    ensures safe { (d : ℕ) → marked result.safe d
+        ≡ any (λ (b : ℕ). some_pair (λ (x : BlockEquation). λ (y : BlockEquation). has (own_cells y x) d) (equations_between set.now (bounds_of set.now b))) (range 0 set.now.blocks) }
 {
-    for b in 0..blocks {
-        let first = begin_at(ends, b);
-        subtract_pairs(slots, rests, first, wide(ends[b]), mines, safe);
+    let mut marks = PairMarks {
+        mines: [0; 1024],
+        safe: [0; 1024],
+    };
+    for b in 0..set.blocks {
+        subtract_pairs(set, set.bounds_at(b), &mut marks);
     }
+    marks
 }
 
 // The direct rule's sweeps over what is left of equations once cells are known.
@@ -140,23 +123,14 @@ fn subtract(set: &BlockSet) -> Subtracted
     requires ready { Ready (blocks_of set.now) }
     ensures { Subtracts (blocks_of set.now) result }
 {
-    let mut mine_marks = [0u8; 1024];
-    let mut safe_marks = [0u8; 1024];
-    subtract_blocks(
-        &set.slots,
-        &set.rests,
-        &set.equation_ends,
-        set.blocks,
-        &mut mine_marks,
-        &mut safe_marks,
-    );
+    let marks = subtract_blocks(set);
     let lists = Lists {
-        safe: list_blocks(&set.cells, &set.cell_ends, set.blocks, &safe_marks),
-        mines: list_blocks(&set.cells, &set.cell_ends, set.blocks, &mine_marks),
+        safe: list_blocks(&set.cells, &set.cell_ends, set.blocks, &marks.safe),
+        mines: list_blocks(&set.cells, &set.cell_ends, set.blocks, &marks.mines),
     };
-    let known = marked_in_one(&mine_marks, &safe_marks);
+    let known = marked_in_one(&marks.mines, &marks.safe);
     Subtracted {
-        mine_marks,
+        mine_marks: marks.mines,
         known,
         lists,
     }
@@ -184,7 +158,7 @@ pub fn minus_cells(set: BlockSet) -> Lists
     ensures { result ≡ minus_lists (blocks_of set) }
 {
     let own = subtract(&set);
-    let equations = begin_at(&set.equation_ends, set.blocks);
+    let equations = set.next_equation();
     let more = sweep_left(
         &set.slots,
         &set.rests,

@@ -5,16 +5,16 @@ use Rattle.direct.proofs.WholeSets.{equations_of_all, slots_of_all}
 use Rattle.subtraction.proofs.MinusLists.{both_fit, both_answered}
 use Rattle.subtraction.proofs.minus_cells.Goals as goal
 
-pub begin_at-equations-requires : goal.begin_at-equations-requires
-begin_at-equations-requires c = blocks_few c.args.set c.requires.whole
+pub next_equation-equations-requires : goal.next_equation-equations-requires
+next_equation-equations-requires c = blocks_few c.args.set c.requires.whole
 
 pub sweep_left-more-requires : goal.sweep_left-more-requires
-sweep_left-more-requires c = record { slots = slots_of_all c.args.set c.requires.whole _ c.begin_at-equations.ensures; equations_value = rw (equations_of_all c.args.set c.requires.whole _ c.begin_at-equations.ensures) c.requires.whole.fits.small }
+sweep_left-more-requires c = record { slots = slots_of_all c.args.set c.requires.whole _ c.next_equation-equations.ensures; equations_value = rw (equations_of_all c.args.set c.requires.whole _ c.next_equation-equations.ensures) c.requires.whole.fits.small }
 
 pub followed_by-requires : goal.followed_by-requires
-followed_by-requires c = both_fit c.args.set c.requires.whole c.requires.ready c.subtract-own.result c.subtract-own.ensures _ c.begin_at-equations.ensures c.sweep_left-more.result c.sweep_left-more.ensures
+followed_by-requires c = both_fit c.args.set c.requires.whole c.requires.ready c.subtract-own.result c.subtract-own.ensures _ c.next_equation-equations.ensures c.sweep_left-more.result c.sweep_left-more.ensures
 
 pub returns : goal.returns
 returns c =
-    both_answered c.args.set c.requires.whole c.requires.ready c.subtract-own.result c.subtract-own.ensures _ c.begin_at-equations.ensures c.sweep_left-more.result c.sweep_left-more.ensures
+    both_answered c.args.set c.requires.whole c.requires.ready c.subtract-own.result c.subtract-own.ensures _ c.next_equation-equations.ensures c.sweep_left-more.result c.sweep_left-more.ensures
     _ c.followed_by.ensures

@@ -11,26 +11,29 @@ use Rattle.subtraction.proofs.MarkedLists.{mines_fit, safe_fit, subtracted}
 use Rattle.subtraction.proofs.subtract.Goals as goal
 
 -- ---- the needs
-pub subtract_blocks-requires : goal.subtract_blocks-requires
-subtract_blocks-requires c =
+pub subtract_blocks-marks-requires : goal.subtract_blocks-marks-requires
+subtract_blocks-marks-requires c =
     let set = c.args.set.now in
     let whole = c.requires.whole in record {
-      blocks_bound = blocks_few set whole;
-      by_index = λ b h. (
+      few = blocks_few set whole;
+      slots = λ b h. (
         (arrays_in set whole b (omega (arith, blocks_held set whole))).in_slots,
         slots_once set whole (all_equations_once (blocks_of set) c.requires.ready) b h,
       );
-      mines_len = (refl, refl);
     }
 
 pub list_blocks-requires : goal.list_blocks-requires
-list_blocks-requires c = record { parts = parts c.args.set.now c.requires.whole; blocks_len_bound = safe_fit c.args.set.now c.requires.whole c.requires.ready c.subtract_blocks.new.mines _ c.subtract_blocks.ensures.by_index_2 c.subtract_blocks.ensures.by_index_3 }
+list_blocks-requires c =
+    let marks = c.subtract_blocks-marks in
+    record { parts = parts c.args.set.now c.requires.whole; blocks_len_bound = safe_fit c.args.set.now c.requires.whole c.requires.ready marks.result.mines marks.result.safe marks.ensures.mines marks.ensures.safe }
 
 pub list_blocks-requires-2 : goal.list_blocks-requires-2
-list_blocks-requires-2 c = record { parts = parts c.args.set.now c.requires.whole; blocks_len_bound = mines_fit c.args.set.now c.requires.whole c.requires.ready _ c.subtract_blocks.new.safe c.subtract_blocks.ensures.by_index_2 c.subtract_blocks.ensures.by_index_3 }
+list_blocks-requires-2 c =
+    let marks = c.subtract_blocks-marks in
+    record { parts = parts c.args.set.now c.requires.whole; blocks_len_bound = mines_fit c.args.set.now c.requires.whole c.requires.ready marks.result.mines marks.result.safe marks.ensures.mines marks.ensures.safe }
 
 pub returns : goal.returns
 returns c =
-    let k = c.marked_in_one-known in
-    subtracted c.args.set.now c.requires.whole c.requires.ready c.subtract_blocks.new.mines c.subtract_blocks.new.safe c.subtract_blocks.ensures.by_index_2 c.subtract_blocks.ensures.by_index_3
-    _ k.ensures _ c.list_blocks-2.ensures _ c.list_blocks.ensures
+    let marks = c.subtract_blocks-marks in
+    subtracted c.args.set.now c.requires.whole c.requires.ready marks.result.mines marks.result.safe marks.ensures.mines marks.ensures.safe
+    _ c.marked_in_one-known.ensures _ c.list_blocks-2.ensures _ c.list_blocks.ensures

@@ -1,6 +1,5 @@
-use mathlib.Core.Path.{◌≡◌}
 use Prim.Native.Nat.{◌-◌}
-use lib.ListN.{length}
+use lib.ListN.{replicate}
 use Rattle.lists.specs.Lists.{range}
 use Rattle.subtraction.proofs.MarkedSoFar.{MarkedSoFar}
 use Rattle.subtraction.proofs.Pairs.{mines_in, safe_in}
@@ -8,7 +7,5 @@ use Rattle.subtraction.proofs.subtract_blocks.Given as goal
 
 abbrev pub invariant-loop-b : goal.invariant-loop-b
 invariant-loop-b l =
-    (length l.mines ≡ 1024)
-    × (length l.safe ≡ 1024)
-    × MarkedSoFar (mines_in l.slots l.rests l.ends) l.initial.mines (range 0 l.blocks) l.mines (range l.b (l.blocks - l.b))
-    × MarkedSoFar (safe_in l.slots l.rests l.ends) l.initial.safe (range 0 l.blocks) l.safe (range l.b (l.blocks - l.b))
+    MarkedSoFar (mines_in l.set.slots l.set.rests l.set.equation_ends) (replicate 1024 0) (range 0 l.set.blocks) l.marks.mines (range l.b (l.set.blocks - l.b))
+    × MarkedSoFar (safe_in l.set.slots l.set.rests l.set.equation_ends) (replicate 1024 0) (range 0 l.set.blocks) l.marks.safe (range l.b (l.set.blocks - l.b))

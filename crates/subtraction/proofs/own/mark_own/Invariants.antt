@@ -1,4 +1,4 @@
-use Prim.Native.Nat.{ℕ, ◌≤◌}
+use Prim.Native.Nat.{ℕ}
 use mathlib.Core.Path.{◌≡◌}
 use mathlib.Core.Bool.{Bool, not}
 use lib.ListN.{length, take, drop}
@@ -11,8 +11,7 @@ use Rattle.subtraction.proofs.own.mark_own.Given as goal
 abbrev pub lacks : UpToEight → ℕ → Bool
 lacks other c = not (has (take other.len other.cells) c)
 
-abbrev pub invariant-loop-k : goal.invariant-loop-k
-invariant-loop-k l =
-    (l.k ≤ l.len)
-    × (length l.marks ≡ 1024)
-    × ((d : ℕ) → marked_with (lacks l.other) l.marks (drop l.k (take l.len l.cells)) d ≡ marked_with (lacks l.other) l.initial.marks (take l.len l.cells) d)
+abbrev pub invariant-loop-cell : goal.invariant-loop-cell
+invariant-loop-cell l =
+    (length l.marks ≡ 1024)
+    × ((d : ℕ) → marked_with (lacks l.other) l.marks (drop l.cell-index l.cell-items) d ≡ marked_with (lacks l.other) l.initial.marks l.cell-items d)
