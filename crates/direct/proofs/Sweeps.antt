@@ -105,11 +105,11 @@ module _ (near : UpToEight) (slots rests : List ℕ) (e : ℕ) (is : near ≡ li
   cells_count = ap (λ (x : UpToEight). x.len) is
 
   -- the equation is full
-  pub asked_full : get_or rests e 0 ≡ near.len + 8 → full (equation_of slots rests e) ≡ true
+  pub asked_full : get_or rests e 0 ≡ 8 + near.len → full (equation_of slots rests e) ≡ true
   asked_full h = eq-eqb (get_or rests e 0) (length (slot_cells slots e) + 8) (omega (arith, cells_count, h))
 
   -- it isn't
-  pub asked_not_full : (get_or rests e 0 ≡ near.len + 8 → ⊥) → full (equation_of slots rests e) ≡ false
+  pub asked_not_full : (get_or rests e 0 ≡ 8 + near.len → ⊥) → full (equation_of slots rests e) ≡ false
   asked_not_full h = ne_eqb (get_or rests e 0) (length (slot_cells slots e) + 8) (λ w. h (omega (arith, cells_count, w)))
 
   -- where nothing is marked there, all its cells are added
@@ -190,12 +190,12 @@ module _ (near : UpToEight) (slots rests : List ℕ) (e : ℕ) (is : near ≡ li
       ∙ count_ext (marked mines) (has ms) (slot_cells slots e) (λ c h. marks_has known c)
 
   -- no mine of the equation is left
-  pub asked_none_left : (n : ℕ) → n ≡ count (marked mines) (take near.len near.cells) → get_or rests e 0 ≡ n + 8
+  pub asked_none_left : (n : ℕ) → n ≡ count (marked mines) (take near.len near.cells) → get_or rests e 0 ≡ 8 + n
       → none_left ms (equation_of slots rests e) ≡ true
   asked_none_left n counted h = eq-eqb (get_or rests e 0) (count (has ms) (slot_cells slots e) + 8) (omega (arith, counted ∙ marked_count, h))
 
   -- one is left
-  pub asked_some_left : (n : ℕ) → n ≡ count (marked mines) (take near.len near.cells) → (get_or rests e 0 ≡ n + 8 → ⊥)
+  pub asked_some_left : (n : ℕ) → n ≡ count (marked mines) (take near.len near.cells) → (get_or rests e 0 ≡ 8 + n → ⊥)
       → none_left ms (equation_of slots rests e) ≡ false
   asked_some_left n counted h =
       ne_eqb (get_or rests e 0) (count (has ms) (slot_cells slots e) + 8) (λ w. h (omega (arith, counted ∙ marked_count, w)))

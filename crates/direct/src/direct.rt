@@ -11,10 +11,10 @@ ghost use Rattle.direct.specs.Answers.{Sweeps, rule_answer, swept_lists};
 ghost use Rattle.direct.specs.declared.answer.RuleAnswer.{RuleAnswer};
 
 use super::answer::{Contradiction, Lists, RuleAnswer};
-use blocks::{BlockSet, begin_at, slots_at};
+use blocks::{BlockSet, slots_at};
 use chunks::chunk_matrixes;
 use grid::window::{UpToEight, wide};
-use marks::left::{has_negative, left_blocks};
+use marks::left::{Known, ZERO_REST, has_negative, left_blocks};
 use marks::listing::CellList;
 use marks::{count_marked, marked_in_one};
 
@@ -76,7 +76,7 @@ fn sweep_mines(
     while 0 < e {
         e -= 1;
         let list = slots_at(slots, e);
-        if rests[e] == (list.len + 8) as u8 {
+        if rests[e] == ZERO_REST + list.len as u8 {
             n = add_unmarked(list, safe, marks, out, n);
         }
     }
@@ -103,7 +103,7 @@ fn sweep_safe(
     while 0 < e {
         e -= 1;
         let list = slots_at(slots, e);
-        if rests[e] == (count_marked(mines, list) + 8) as u8 {
+        if rests[e] == ZERO_REST + count_marked(mines, list) as u8 {
             n = add_unmarked(list, mines, marks, out, n);
         }
     }
@@ -175,11 +175,15 @@ pub fn direct_rule(set: BlockSet) -> Result<RuleAnswer, Contradiction>
     ensures value { result ≡ rule_answer (direct (blocks_of set)) }
     ensures left_whole { IfOk result (λ (answer : RuleAnswer). Whole answer.left) }
 {
-    let equations = begin_at(&set.equation_ends, set.blocks);
+    let equations = set.next_equation();
     let found = sweep(&set.slots, &set.rests, equations);
-    let known = marked_in_one(&found.mine_marks, &found.safe_marks);
-    let left = left_blocks(set, &found.mine_marks, &known, false);
-    let end = begin_at(&left.equation_ends, left.blocks);
+    let known = Known {
+        mines: found.mine_marks,
+        cells: marked_in_one(&found.mine_marks, &found.safe_marks),
+        subtracted: false,
+    };
+    let left = left_blocks(set, &known);
+    let end = left.next_equation();
     let rests = &left.rests[..end];
     if has_negative(rests) {
         return Err(Contradiction);

@@ -6,12 +6,12 @@ ghost use Rattle.lists.specs.Lists.{range, keep, count, any, joined};
 ghost use Rattle.grid.specs.Window.{listed};
 ghost use Rattle.blocks.specs.Blocks.{BlockEquation};
 ghost use Rattle.blocks.specs.BlockSets.{block_set, blocks_of, slots_of, Whole};
-ghost use Rattle.blocks.specs.Places.{marked, OnBoard, Slots, Arrays, Room, equations_from, block_from};
+ghost use Rattle.blocks.specs.Places.{marked, OnBoard, Slots, Stands, Room, equations_from, block_between};
 ghost use Rattle.marks.specs.Marked.{stays, left_equations, left_block, left_blocks};
 
 use super::count_marked;
 use super::listing::list_cells;
-use blocks::{BlockSet, Bounds, begin_at, bounds_at, empty_set, put_slots, slots_at};
+use blocks::{BlockSet, Bounds, empty_set, put_slots, slots_at};
 use grid::window::{UpToEight, wide};
 
 // The byte of a remainder 0: remainders are kept plus 8, so that one less than 0 is a byte too.
@@ -48,142 +48,87 @@ fn rest_stays(subtracted: bool, rest: u8) -> bool
     subtracted || rest != ZERO_REST
 }
 
-// The equations between two places that stay go to `out` from place `at` on.
-pub fn left_slots(
-    slots: &[u16; 8192],
-    rests: &[u8; 1024],
+// What is known of cells: the mines, and all known cells, each marked; and whether subtraction found them.
+#[derive(Drop)]
+pub struct Known {
+    pub mines: [u8; 1024],
+    pub cells: [u8; 1024],
+    pub subtracted: bool,
+}
+
+// The equations between two places that stay go to `out_slots` and their remainders to `out_rests`, from place `at` on; the answer is the place behind them.
+pub fn left_equations(
+    set: &BlockSet,
     first: usize,
     end: usize,
-    mines: &[u8; 1024],
-    known: &[u8; 1024],
-    subtracted: bool,
-    out: &mut [u16; 8192],
+    known: &Known,
+    out_slots: &mut [u16; 8192],
+    out_rests: &mut [u8; 1024],
     at: usize,
 ) -> usize
-    requires slots { Slots slots.now end }
-    requires out_len { length out.old ≡ 8192 }
-    requires end_bound { at + length (left_equations subtracted mines.now known.now (equations_from slots.now rests.now first end)) ≤ 1024 }
-    ensures value { result ≡ at + length (left_equations subtracted mines.now known.now (equations_from slots.now rests.now first end)) }
-    ensures out_after { out.new ≡ sets out.old (at * 8) (joined (map slots_of (left_equations subtracted mines.now known.now (equations_from slots.now rests.now first end)))) }
+    requires slots { Slots set.now.slots end }
+    requires room { at + length (left_equations known.now.subtracted known.now.mines known.now.cells (equations_from set.now.slots set.now.rests first end)) ≤ 1024 }
+    ensures value { result ≡ at + length (left_equations known.now.subtracted known.now.mines known.now.cells (equations_from set.now.slots set.now.rests first end)) }
+    ensures slots_after { out_slots.new ≡ sets out_slots.old (at * 8) (joined (map slots_of (left_equations known.now.subtracted known.now.mines known.now.cells (equations_from set.now.slots set.now.rests first end)))) }
+    ensures rests_after { out_rests.new ≡ sets out_rests.old at (map (λ (e : BlockEquation). e.rest) (left_equations known.now.subtracted known.now.mines known.now.cells (equations_from set.now.slots set.now.rests first end))) }
 {
     let mut k = at;
     for e in first..end {
-        let list = slots_at(slots, e);
-        if rest_stays(subtracted, left_rest(rests[e], mines, list)) {
-            put_slots(out, k, left_list(list, known));
+        let list = slots_at(&set.slots, e);
+        let rest = left_rest(set.rests[e], &known.mines, list);
+        if rest_stays(known.subtracted, rest) {
+            put_slots(out_slots, k, left_list(list, &known.cells));
+            out_rests[k] = rest;
             k += 1;
         }
     }
     k
 }
 
-// Their remainders go to `out` from place `at` on.
-pub fn left_rests(
-    slots: &[u16; 8192],
-    rests: &[u8; 1024],
-    first: usize,
-    end: usize,
-    mines: &[u8; 1024],
-    known: &[u8; 1024],
-    subtracted: bool,
-    out: &mut [u8; 1024],
-    at: usize,
-)
-    requires slots { Slots slots.now end }
-    requires out_len { length out.old ≡ 1024 }
-    requires end_bound { at + length (left_equations subtracted mines.now known.now (equations_from slots.now rests.now first end)) ≤ 1024 }
-    ensures { out.new ≡ sets out.old at (map (λ (e : BlockEquation). e.rest) (left_equations subtracted mines.now known.now (equations_from slots.now rests.now first end))) }
-{
-    let mut k = at;
-    for e in first..end {
-        let rest = left_rest(rests[e], mines, slots_at(slots, e));
-        if rest_stays(subtracted, rest) {
-            out[k] = rest;
-            k += 1;
-        }
-    }
-}
-
 // What is left of a block goes to the end of a set; after subtraction nothing does where no cell is left.
-fn put_left(
-    cells: &[u16; 1024],
-    slots: &[u16; 8192],
-    rests: &[u8; 1024],
-    bounds: Bounds,
-    mines: &[u8; 1024],
-    known: &[u8; 1024],
-    subtracted: bool,
-    out: BlockSet,
-) -> BlockSet
-    requires arrays { Arrays cells.now slots.now rests.now bounds }
-    requires room { Room out (left_block subtracted mines.now known.now (block_from cells.now slots.now rests.now bounds)) }
-    ensures { result ≡ block_set (blocks_of out ++ left_block subtracted mines.now known.now (block_from cells.now slots.now rests.now bounds)) }
+fn put_left(set: &BlockSet, bounds: Bounds, known: &Known, mut out: BlockSet) -> BlockSet
+    requires arrays { Stands set.now bounds }
+    requires room { Room out (left_block known.now.subtracted known.now.mines known.now.cells (block_between set.now bounds)) }
+    ensures { result ≡ block_set (blocks_of out ++ left_block known.now.subtracted known.now.mines known.now.cells (block_between set.now bounds)) }
 {
-    let mut t = out;
-    let b = t.blocks;
-    let k = begin_at(&t.cell_ends, b);
+    let k = out.next_cell();
     let last = list_cells(
-        cells,
+        &set.cells,
         bounds.first_cell,
         bounds.end_cell,
-        known,
+        &known.cells,
         0,
-        &mut t.cells,
+        &mut out.cells,
         k,
     );
-    if subtracted {
+    if known.subtracted {
         if last == k {
-            return t;
+            return out;
         }
     }
-    let e = begin_at(&t.equation_ends, b);
-    let first = bounds.first_equation;
-    let end = bounds.end_equation;
-    let next = left_slots(
-        slots,
-        rests,
-        first,
-        end,
-        mines,
+    let e = out.next_equation();
+    let next = left_equations(
+        set,
+        bounds.first_equation,
+        bounds.end_equation,
         known,
-        subtracted,
-        &mut t.slots,
+        &mut out.slots,
+        &mut out.rests,
         e,
     );
-    left_rests(
-        slots,
-        rests,
-        first,
-        end,
-        mines,
-        known,
-        subtracted,
-        &mut t.rests,
-        e,
-    );
-    t.cell_ends[b] = last as u16;
-    t.equation_ends[b] = next as u16;
-    t.blocks = b + 1;
-    t
+    out.end_block(last, next);
+    out
 }
 
 // What is left of all blocks of a set.
-pub fn left_blocks(
-    set: BlockSet,
-    mines: &[u8; 1024],
-    known: &[u8; 1024],
-    subtracted: bool,
-) -> BlockSet
+pub fn left_blocks(set: BlockSet, known: &Known) -> BlockSet
     requires { Whole set }
-    ensures value { result ≡ block_set (left_blocks subtracted mines.now known.now (blocks_of set)) }
+    ensures value { result ≡ block_set (left_blocks known.now.subtracted known.now.mines known.now.cells (blocks_of set)) }
     ensures whole { Whole result }
 {
     let mut out = empty_set();
     for b in 0..set.blocks {
-        let bounds = bounds_at(&set.cell_ends, &set.equation_ends, b);
-        out = put_left(
-            &set.cells, &set.slots, &set.rests, bounds, mines, known, subtracted, out,
-        );
+        out = put_left(&set, set.bounds_at(b), known, out);
     }
     out
 }

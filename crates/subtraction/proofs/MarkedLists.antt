@@ -1,11 +1,11 @@
 -- The pairs of the subtraction rule on a block set, as the code puts them together: their marks give the rule's own lists and what is left, and the struct that
 -- holds them tells what the rule says of the blocks (`Subtracts`). Rests on the laws of the marks and of where blocks stand in a set. Assumes nothing.
-use mathlib.Core.Path.{◌≡◌, ap, ◌∙◌}
-use mathlib.Core.Bool.{◌||◌}
+use mathlib.Core.Path.{◌≡◌, refl, ap, ◌∙◌}
+use mathlib.Core.Bool.{true, ◌||◌}
 use mathlib.Core.List.{List}
 use Prim.Native.Nat.{ℕ, ◌≤◌, ◌<◌}
 use native.Mathlib.Omega.{arith}
-use lib.ListN.{length, get_or, replicate}
+use lib.ListN.{length, get_or}
 use Rattle.lists.specs.Lists.{range, bit, keep, any}
 use Rattle.blocks.specs.Blocks.{BlockEquation, Block}
 use Rattle.blocks.specs.BlockSets.{blocks_of, Whole}
@@ -65,8 +65,9 @@ module _ (s : BlockSet) (w : Whole s) (ready : Ready (blocks_of s)) (mines safe 
   pub subtracted : (known : List ℕ) → ((d : ℕ) → d < 1024 → get_or known d 0 ≡ bit (marked mines d || marked safe d))
       → (mine_list : CellList) → mine_list ≡ cell_list (all_with mines s.cells s.cell_ends s.blocks)
       → (safe_list : CellList) → safe_list ≡ cell_list (all_with safe s.cells s.cell_ends s.blocks)
-      → Subtracts bs record { mine_marks = mines; known = known; lists = record { safe = safe_list; mines = mine_list } }
+      → Subtracts bs record { known = record { mines = mines; cells = known; subtracted = true }; lists = record { safe = safe_list; mines = mine_list } }
   subtracted known known_are mine_list mines_held safe_list safe_held = record {
+    subtracted = refl;
     safe_are = safe_held ∙ ap cell_list safe_listed;
     mines_are = mines_held ∙ ap cell_list mines_listed;
     blocks_left = marks_left bs ready mines safe mines_are safe_are w.fits.on_board known known_are;

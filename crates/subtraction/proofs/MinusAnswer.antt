@@ -56,7 +56,7 @@ module _ (bs : List Block) (none : (direct (minus_blocks bs)).contradiction ≡ 
 
 -- `left` holds what the marks leave
 module _ (s : BlockSet) (w : Whole s) (ready : Ready (blocks_of s)) (own : Subtracted) (told : Subtracts (blocks_of s) own)
-    (left : BlockSet) (left_is : left ≡ block_set (left_blocks true own.mine_marks own.known (blocks_of s))) where
+    (left : BlockSet) (left_is : left ≡ block_set (left_blocks true own.known.mines own.known.cells (blocks_of s))) where
   abbrev bs : List Block
   bs = blocks_of s
 

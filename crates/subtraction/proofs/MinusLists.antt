@@ -72,12 +72,12 @@ module _ (mines known slots rests : List ℕ) (n : ℕ) (few : n ≤ 1024) where
 -- n is where the equations of the last block end, and `more` what the sweeps find in what the marks leave
 module _ (s : BlockSet) (w : Whole s) (ready : Ready (blocks_of s)) (own : Subtracted) (told : Subtracts (blocks_of s) own)
     (n : ℕ) (at : n ≡ begin_at s.equation_ends s.blocks)
-    (more : Lists) (more_is : more ≡ swept_lists (left_equations true own.mine_marks own.known (equations_from s.slots s.rests 0 n))) where
+    (more : Lists) (more_is : more ≡ swept_lists (left_equations true own.known.mines own.known.cells (equations_from s.slots s.rests 0 n))) where
   abbrev bs : List Block
   bs = blocks_of s
 
   swept : more ≡ swept_lists (left_of bs)
-  swept = more_is ∙ ap swept_lists (ap (left_equations true own.mine_marks own.known) (equations_of_all s w n at) ∙ told.equations_left)
+  swept = more_is ∙ ap swept_lists (ap (left_equations true own.known.mines own.known.cells) (equations_of_all s w n at) ∙ told.equations_left)
 
   more_mines : more.mines ≡ cell_list (sure_mines (left_of bs))
   more_mines = lists_mines more (sure_safe (left_of bs)) (sure_mines (left_of bs)) swept

@@ -4,9 +4,6 @@ use Rattle.std.specs.Prelude.{◌≡◌, Bool, true, ◌&&◌, List, ◌++◌, �
 use Rattle.lists.specs.Lists.{any, nodup}
 use Rattle.blocks.specs.Blocks.{Block, BlockEquation}
 use Rattle.blocks.specs.BlockSets.{all_equations, slot_cells}
-use Rattle.blocks.specs.Places.{equations_from}
-use Rattle.blocks.specs.declared.BlockSet.{BlockSet}
-use Rattle.blocks.specs.declared.Bounds.{Bounds}
 use Rattle.marks.specs.Marked.{left_equations, left_blocks}
 use Rattle.marks.specs.CellLists.{cell_list}
 use Rattle.direct.specs.Direct.{sure_mines, sure_safe, from_last}
@@ -23,10 +20,6 @@ minus_lists bs = lists_of (from_last minus_safe bs ++ sure_safe (left_of bs)) (f
 abbrev pub equation_in : List ℕ → List ℕ → ℕ → BlockEquation
 equation_in slots rests e = record { cells = slot_cells slots e; rest = get_or rests e 0 }
 
--- the equations of a block of the set
-abbrev pub equations_between : BlockSet → Bounds → List BlockEquation
-equations_between set bounds = equations_from set.slots set.rests bounds.first_equation bounds.end_equation
-
 -- before a place no equation has a cell twice
 pub record Once (slots : List ℕ) (end : ℕ) : Type 0 where
   pub at : (e : ℕ) → e < end → nodup (slot_cells slots e) ≡ true
@@ -37,7 +30,8 @@ some_other t e es = any (λ (f : BlockEquation). exceeds e f && t e f) es
 
 -- what all pairs of all blocks tell: the rule's own lists, and marks by which there is left what the rule leaves
 pub record Subtracts (bs : List Block) (r : Subtracted) : Type 0 where
+  pub subtracted : r.known.subtracted ≡ true
   pub safe_are : r.lists.safe ≡ cell_list (from_last minus_safe bs)
   pub mines_are : r.lists.mines ≡ cell_list (from_last minus_mines bs)
-  pub blocks_left : left_blocks true r.mine_marks r.known bs ≡ minus_blocks bs
-  pub equations_left : left_equations true r.mine_marks r.known (all_equations bs) ≡ left_of bs
+  pub blocks_left : left_blocks true r.known.mines r.known.cells bs ≡ minus_blocks bs
+  pub equations_left : left_equations true r.known.mines r.known.cells (all_equations bs) ≡ left_of bs

@@ -9,19 +9,19 @@ ghost use Rattle.std.specs.Prelude.{◌≡◌, true, ◌||◌, ℕ, ◌≤◌, �
 ghost use Rattle.lists.specs.Lists.{range, any, all, has};
 ghost use Rattle.blocks.specs.Blocks.{BlockEquation};
 ghost use Rattle.blocks.specs.BlockSets.{blocks_of, small_equation, Whole};
-ghost use Rattle.blocks.specs.Places.{marked, Slots, bounds_of, equations_from};
+ghost use Rattle.blocks.specs.Places.{marked, Slots, bounds_of, equations_from, equations_between};
 ghost use Rattle.marks.specs.Marked.{Ready, left_equations};
 ghost use Rattle.direct.specs.Answers.{rule_answer, swept_lists};
 ghost use Rattle.direct.specs.declared.answer.RuleAnswer.{RuleAnswer};
 ghost use Rattle.subtraction.specs.Minus.{own_cells, some_pair, subtraction};
-ghost use Rattle.subtraction.specs.Pairs.{Once, equation_in, equations_between, some_other, Subtracts, minus_lists};
+ghost use Rattle.subtraction.specs.Pairs.{Once, equation_in, some_other, Subtracts, minus_lists};
 
-use blocks::{BlockSet, Bounds, marks_of, slots_at};
+use blocks::{BlockSet, Bounds, NO_CELL, marks_of, slots_at};
 use chunks::chunk_matrixes;
 use direct::answer::{Contradiction, Lists, RuleAnswer};
 use direct::direct::{direct_rule, swept_cells};
 use grid::window::{wide, wide_byte};
-use marks::left::{left_blocks, left_rests, left_slots};
+use marks::left::{Known, left_blocks, left_equations};
 use marks::listing::list_blocks;
 use marks::{count_marked, marked_in_one};
 use own::mark_own;
@@ -91,29 +91,22 @@ fn subtract_blocks(set: &BlockSet) -> PairMarks
 }
 
 // The direct rule's sweeps over what is left of equations once cells are known.
-fn sweep_left(
-    slots: &[u16; 8192],
-    rests: &[u8; 1024],
-    equations: usize,
-    mines: &[u8; 1024],
-    known: &[u8; 1024],
-) -> Lists
-    requires slots { Slots slots.now equations }
-    requires equations_value { all small_equation (equations_from slots.now rests.now 0 equations) ≡ true }
-    ensures { result ≡ swept_lists (left_equations true mines.now known.now (equations_from slots.now rests.now 0 equations)) }
+fn sweep_left(set: &BlockSet, equations: usize, known: &Known) -> Lists
+    requires slots { Slots set.now.slots equations }
+    requires small { all small_equation (equations_from set.now.slots set.now.rests 0 equations) ≡ true }
+    requires subtracted { known.now.subtracted ≡ true }
+    ensures { result ≡ swept_lists (left_equations true known.now.mines known.now.cells (equations_from set.now.slots set.now.rests 0 equations)) }
 {
-    let mut left = [65535u16; 8192];
-    let mut less = [0u8; 1024];
-    let len = left_slots(slots, rests, 0, equations, mines, known, true, &mut left, 0);
-    left_rests(slots, rests, 0, equations, mines, known, true, &mut less, 0);
-    swept_cells(&left, &less, len)
+    let mut slots = [NO_CELL; 8192];
+    let mut rests = [0u8; 1024];
+    let len = left_equations(set, 0, equations, known, &mut slots, &mut rests, 0);
+    swept_cells(&slots, &rests, len)
 }
 
-// What all pairs of equations tell: the cells that they mark as mines, those that they mark at all, and the mines and the safe cells in lists.
+// What all pairs of equations tell: the cells that they mark, and the mines and the safe cells in lists.
 #[derive(Drop)]
 pub struct Subtracted {
-    pub mine_marks: [u8; 1024],
-    pub known: [u8; 1024],
+    pub known: Known,
     pub lists: Lists,
 }
 
@@ -128,12 +121,12 @@ fn subtract(set: &BlockSet) -> Subtracted
         safe: list_blocks(&set.cells, &set.cell_ends, set.blocks, &marks.safe),
         mines: list_blocks(&set.cells, &set.cell_ends, set.blocks, &marks.mines),
     };
-    let known = marked_in_one(&marks.mines, &marks.safe);
-    Subtracted {
-        mine_marks: marks.mines,
-        known,
-        lists,
-    }
+    let known = Known {
+        mines: marks.mines,
+        cells: marked_in_one(&marks.mines, &marks.safe),
+        subtracted: true,
+    };
+    Subtracted { known, lists }
 }
 
 // solve_minus on blocks: its own lists, then those of the direct rule on what is left, and the blocks that this leaves, split once more.
@@ -144,7 +137,7 @@ pub fn minus_rule(set: BlockSet) -> Result<RuleAnswer, Contradiction>
     ensures left_whole { IfOk result (λ (answer : RuleAnswer). Whole answer.left) }
 {
     let own = subtract(&set);
-    let rule = direct_rule(left_blocks(set, &own.mine_marks, &own.known, true))?;
+    let rule = direct_rule(left_blocks(set, &own.known))?;
     Ok(RuleAnswer {
         lists: own.lists.followed_by(rule.lists),
         left: chunk_matrixes(rule.left),
@@ -159,12 +152,6 @@ pub fn minus_cells(set: BlockSet) -> Lists
 {
     let own = subtract(&set);
     let equations = set.next_equation();
-    let more = sweep_left(
-        &set.slots,
-        &set.rests,
-        equations,
-        &own.mine_marks,
-        &own.known,
-    );
+    let more = sweep_left(&set, equations, &own.known);
     own.lists.followed_by(more)
 }

@@ -9,7 +9,7 @@ pub next_equation-equations-requires : goal.next_equation-equations-requires
 next_equation-equations-requires c = blocks_few c.args.set c.requires.whole
 
 pub sweep_left-more-requires : goal.sweep_left-more-requires
-sweep_left-more-requires c = record { slots = slots_of_all c.args.set c.requires.whole _ c.next_equation-equations.ensures; equations_value = rw (equations_of_all c.args.set c.requires.whole _ c.next_equation-equations.ensures) c.requires.whole.fits.small }
+sweep_left-more-requires c = record { slots = slots_of_all c.args.set c.requires.whole _ c.next_equation-equations.ensures; small = rw (equations_of_all c.args.set c.requires.whole _ c.next_equation-equations.ensures) c.requires.whole.fits.small; subtracted = c.subtract-own.ensures.subtracted }
 
 pub followed_by-requires : goal.followed_by-requires
 followed_by-requires c = both_fit c.args.set c.requires.whole c.requires.ready c.subtract-own.result c.subtract-own.ensures _ c.next_equation-equations.ensures c.sweep_left-more.result c.sweep_left-more.ensures

@@ -9,21 +9,21 @@ pub left_blocks-requires : goal.left_blocks-requires
 left_blocks-requires c = c.requires.whole
 
 pub direct_rule-requires : goal.direct_rule-requires
-direct_rule-requires c = record { whole = c.left_blocks.ensures.whole; ready = left_ready c.args.set c.requires.whole c.requires.ready c.subtract-own.result c.subtract-own.ensures _ c.left_blocks.ensures.value }
+direct_rule-requires c = record { whole = c.left_blocks.ensures.whole; ready = left_ready c.args.set c.requires.whole c.requires.ready c.subtract-own.result c.subtract-own.ensures _ (rw c.subtract-own.ensures.subtracted at c.left_blocks.ensures.value) }
 
 pub returns-in_err-rule : goal.returns-in_err-rule
 returns-in_err-rule c =
     let p = err_from_is_err_and c.from_residual.result c.from_residual.ensures.1 in
     rw p.1
     (record {
-      value = rule_contradicted c.args.set c.requires.whole c.requires.ready c.subtract-own.result c.subtract-own.ensures _ c.left_blocks.ensures.value
+      value = rule_contradicted c.args.set c.requires.whole c.requires.ready c.subtract-own.result c.subtract-own.ensures _ (rw c.subtract-own.ensures.subtracted at c.left_blocks.ensures.value)
           c.in_err-rule.field-0.0 _ (sym c.in_err-rule.was ∙ c.direct_rule.ensures.value);
       left_whole = tt;
     })
 
 pub followed_by-requires : goal.followed_by-requires
 followed_by-requires c =
-    all_fit c.args.set c.requires.whole c.requires.ready c.subtract-own.result c.subtract-own.ensures _ c.left_blocks.ensures.value
+    all_fit c.args.set c.requires.whole c.requires.ready c.subtract-own.result c.subtract-own.ensures _ (rw c.subtract-own.ensures.subtracted at c.left_blocks.ensures.value)
     c.in_ok-rule.rule (sym c.in_ok-rule.was ∙ c.direct_rule.ensures.value)
 
 pub chunk_matrixes-requires : goal.chunk_matrixes-requires
@@ -32,7 +32,7 @@ chunk_matrixes-requires c = c.in_ok-rule.ensures.left_whole
 pub returns : goal.returns
 returns c =
     record {
-      value = rule_answered c.args.set c.requires.whole c.requires.ready c.subtract-own.result c.subtract-own.ensures _ c.left_blocks.ensures.value
+      value = rule_answered c.args.set c.requires.whole c.requires.ready c.subtract-own.result c.subtract-own.ensures _ (rw c.subtract-own.ensures.subtracted at c.left_blocks.ensures.value)
           c.in_ok-rule.rule (sym c.in_ok-rule.was ∙ c.direct_rule.ensures.value) _ c.followed_by.ensures _ c.chunk_matrixes.ensures.value;
       left_whole = c.chunk_matrixes.ensures.whole;
     }

@@ -1,6 +1,5 @@
 -- `subtraction::subtract` meets its contract: the marks of all pairs are listed, and the cells that either marks are known. Rests on the laws of the rule's own
 -- lists on a set. Assumes nothing.
-use mathlib.Core.Path.{refl}
 use native.Mathlib.Omega.{arith}
 use Rattle.blocks.specs.BlockSets.{blocks_of}
 use Rattle.blocks.proofs.Behind.{blocks_held, blocks_few}
@@ -36,4 +35,4 @@ pub returns : goal.returns
 returns c =
     let marks = c.subtract_blocks-marks in
     subtracted c.args.set.now c.requires.whole c.requires.ready marks.result.mines marks.result.safe marks.ensures.mines marks.ensures.safe
-    _ c.marked_in_one-known.ensures _ c.list_blocks-2.ensures _ c.list_blocks.ensures
+    _ c.marked_in_one.ensures _ c.list_blocks-2.ensures _ c.list_blocks.ensures

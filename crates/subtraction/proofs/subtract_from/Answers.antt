@@ -1,7 +1,6 @@
 -- `subtraction::subtract_from` meets its contract. The loop's invariant: the marks, with what the equation marks beside those from place f on, are the marks
 -- at the start with what it marks beside all of them. The measure is what is left. Rests on the laws of marks so far and of pairs. Assumes nothing.
 use native.Mathlib.Omega.{arith}
-use borrow.Author.Rules.{rules}
 use Rattle.blocks.specs.Places.{OnBoard}
 use Rattle.blocks.proofs.Between.{equations_more, equations_none, listed_on_board}
 use Rattle.subtraction.proofs.MarkedSoFar.{marked_start, marked_next, marked_pass, marked_end}

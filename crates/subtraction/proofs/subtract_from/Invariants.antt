@@ -1,7 +1,5 @@
-use mathlib.Core.Path.{◌≡◌}
-use lib.ListN.{length}
-use Rattle.blocks.specs.Places.{equations_from}
-use Rattle.subtraction.specs.Pairs.{equation_in, equations_between}
+use Rattle.blocks.specs.Places.{equations_from, equations_between}
+use Rattle.subtraction.specs.Pairs.{equation_in}
 use Rattle.subtraction.proofs.MarkedSoFar.{MarkedSoFar}
 use Rattle.subtraction.proofs.Pairs.{mines_beside, safe_beside}
 use Rattle.subtraction.proofs.subtract_from.Given as goal

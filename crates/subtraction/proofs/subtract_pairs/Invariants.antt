@@ -1,5 +1,4 @@
-use Rattle.blocks.specs.Places.{equations_from}
-use Rattle.subtraction.specs.Pairs.{equations_between}
+use Rattle.blocks.specs.Places.{equations_from, equations_between}
 use Rattle.subtraction.proofs.MarkedSoFar.{MarkedSoFar}
 use Rattle.subtraction.proofs.Pairs.{mines_among, safe_among}
 use Rattle.subtraction.proofs.subtract_pairs.Given as goal

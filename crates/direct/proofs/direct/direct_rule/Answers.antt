@@ -19,11 +19,11 @@ use Rattle.blocks.proofs.Behind.{blocks_few}
 use Rattle.direct.proofs.direct.direct_rule.Goals as goal
 use Rattle.direct.proofs.direct.direct_rule.Goals.{After-has_negative, After-left_blocks-left, After-sweep-found}
 
-pub begin_at-equations-requires : goal.begin_at-equations-requires
-begin_at-equations-requires c = blocks_few c.args.set c.requires.whole
+pub next_equation-equations-requires : goal.next_equation-equations-requires
+next_equation-equations-requires c = blocks_few c.args.set c.requires.whole
 
 pub sweep-found-requires : goal.sweep-found-requires
-sweep-found-requires c = slots_of_all c.args.set c.requires.whole _ c.begin_at-equations.ensures
+sweep-found-requires c = slots_of_all c.args.set c.requires.whole _ c.next_equation-equations.ensures
 
 -- the blocks that the set holds
 abbrev blocks : After-sweep-found → List Block
@@ -31,7 +31,7 @@ blocks c = blocks_of c.args.set
 
 -- the lists are those of the equations of all blocks
 swept : (c : After-sweep-found) → Sweeps (all_equations (blocks c)) c.sweep-found.result
-swept c = rw (equations_of_all c.args.set c.requires.whole _ c.begin_at-equations.ensures) at c.sweep-found.ensures
+swept c = rw (equations_of_all c.args.set c.requires.whole _ c.next_equation-equations.ensures) at c.sweep-found.ensures
 
 pub left_blocks-left-requires : goal.left_blocks-left-requires
 left_blocks-left-requires c = c.requires.whole
@@ -48,24 +48,24 @@ left_made c =
     c.left_blocks-left.ensures.value
     ∙ ap block_set
     (left_of_all (all_blocks c) c.requires.ready c.requires.whole.fits.on_board r.mine_marks r.safe_marks _
-    w.mines_marked w.safe_marked c.marked_in_one-known.ensures)
+    w.mines_marked w.safe_marked c.marked_in_one.ensures)
 
 -- and reads as that
 left_read : (c : After-left_blocks-left) → blocks_of c.left_blocks-left.result ≡ map direct_left (all_blocks c)
 left_read c =
     ap blocks_of (left_made c) ∙ blocks_of_set (map direct_left (all_blocks c)) (direct_fits (all_blocks c) c.requires.whole.fits)
 
-pub begin_at-end-requires : goal.begin_at-end-requires
-begin_at-end-requires c = let l = c.left_blocks-left in blocks_few l.result l.ensures.whole
+pub next_equation-end-requires : goal.next_equation-end-requires
+next_equation-end-requires c = let l = c.left_blocks-left in blocks_few l.result l.ensures.whole
 
 pub shared_ref_as_front-rests : goal.shared_ref_as_front-rests
-shared_ref_as_front-rests c = let l = c.left_blocks-left in few_equations l.result l.ensures.whole _ c.begin_at-end.ensures
+shared_ref_as_front-rests c = let l = c.left_blocks-left in few_equations l.result l.ensures.whole _ c.next_equation-end.ensures
 
 -- an equation of it is negative exactly where one that the direct rule leaves is
 negative_asked : (c : After-has_negative) → c.has_negative.result ≡ negative (map direct_left (all_blocks (goal.at.After-has_negative c).After-left_blocks-left))
 negative_asked c =
     let l = c.left_blocks-left in
-    c.has_negative.ensures ∙ negative_of_all l.result l.ensures.whole _ c.begin_at-end.ensures ∙ ap negative (left_read (goal.at.After-has_negative c).After-left_blocks-left)
+    c.has_negative.ensures ∙ negative_of_all l.result l.ensures.whole _ c.next_equation-end.ensures ∙ ap negative (left_read (goal.at.After-has_negative c).After-left_blocks-left)
 
 pub returns-then-has_negative : goal.returns-then-has_negative
 returns-then-has_negative c =

@@ -6,4 +6,4 @@ use Rattle.marks.proofs.left.left_blocks.Given as goal
 
 abbrev pub invariant-loop-b : goal.invariant-loop-b
 invariant-loop-b l =
-    Growing (left_blocks l.subtracted l.mines l.known (blocks_of l.set)) l.out (left_blocks l.subtracted l.mines l.known (drop l.b (blocks_of l.set)))
+    Growing (left_blocks l.known.subtracted l.known.mines l.known.cells (blocks_of l.set)) l.out (left_blocks l.known.subtracted l.known.mines l.known.cells (drop l.b (blocks_of l.set)))
