@@ -92,10 +92,7 @@ impl Settled {
         let mut settled = Settled {
             begun: Order::empty(),
             values: [0; 1024],
-            unmet: Unmet {
-                needs: grouped.needs,
-                rooms: grouped.rooms,
-            },
+            unmet: Unmet::at_first(grouped),
         };
         loop {
             let before = settled.begun.count;

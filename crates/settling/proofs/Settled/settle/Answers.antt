@@ -7,7 +7,7 @@ use Rattle.settling.proofs.Settled.settle.Goals as goal
 pub loop-settled-init : goal.loop-settled-init
 loop-settled-init c = (
   record { inside = rw c.empty.ensures },
-  rw c.empty.ensures (settles_none c.args.grouped.now.sizes c.args.grouped.now.columns _ c.args.grouped.now.needs c.args.grouped.now.rooms),
+  rw (c.empty.ensures, c.at_first.ensures.0, c.at_first.ensures.1) (settles_none c.args.grouped.now.sizes c.args.grouped.now.columns _ c.args.grouped.now.needs c.args.grouped.now.rooms),
 )
 
 pub loop-settled-smaller : goal.loop-settled-smaller
