@@ -4,14 +4,12 @@ use mathlib.Core.Path.{◌≡◌, refl, ◌∙◌}
 use mathlib.Core.Bool.{Bool, true, false}
 use mathlib.Core.List.{List, [], ◌∷◌}
 use Prim.Native.Nat.{ℕ}
-use native.Mathlib.Omega.{arith}
 use Rattle.std.specs.Prelude.{Option, Some, None}
 use Rattle.text.specs.declared.Word.{Word}
 use Rattle.text.specs.declared.Word.TheVariants.{Number, End, Other}
 use Rattle.text.specs.Text.{word_at}
 use Rattle.lines.specs.declared.Pair.{Pair}
 use Rattle.lines.specs.declared.Line.{Line}
-use Rattle.lines.specs.declared.StartLine.{StartLine}
 use Rattle.lines.specs.Lines.{number_before, numbers_at, pair_with, pair_after, pair_at, with_cells, line_from, line_of, start_from, start_line_of}
 use Rattle.lines.proofs.Words.{numbers_more, numbers_end, numbers_other}
 

@@ -1,14 +1,14 @@
 -- The parts of a block set as the code reads them for its text. A block set that is whole has no end past its arrays, and its blocks are those at their places. Rests on the
 -- laws of joined lists. Assumes nothing.
-use Prim.Native.Nat.{ℕ, ◌+◌, ◌-◌, ◌≤◌, ◌<◌}
-use mathlib.Core.Path.{◌≡◌, sym, ap, subst, ◌∙◌}
+use Prim.Native.Nat.{ℕ, ◌≤◌, ◌<◌}
+use mathlib.Core.Path.{◌≡◌, sym, subst}
 use mathlib.Core.List.{List, [], ◌∷◌, ◌++◌, map}
 use native.Mathlib.Omega.{arith}
-use lib.ListN.{length, get_or, take, length-append, length-map}
+use lib.ListN.{length, get_or, length-map}
 use Rattle.lists.specs.Lists.{range, joined, pad}
 use Rattle.lists.proofs.Rearranged.{length_range}
 use Rattle.lists.proofs.Arrays.{length_pad, pad_read}
-use Rattle.lists.proofs.Joined.{joined_map_map, part_within, read_range}
+use Rattle.lists.proofs.Joined.{joined_map_map, part_within}
 use Rattle.blocks.specs.Blocks.{Block}
 use Rattle.blocks.specs.BlockSets.{begin_at, slots_of, all_cells, all_equations, block_set, block_at, blocks_of, Small, Whole}
 use Rattle.blocks.specs.declared.BlockSet.{BlockSet}

@@ -1,16 +1,14 @@
 -- `read_cells` meets its contract. The loop's invariant: the cells in the array and those from place `at` on make the line that is to be read. The measure is what is left of the
 -- line: a number that is read ends behind its beginning and inside the line. Rests on the turns of `CellsSoFar`. Assumes nothing.
 use mathlib.Core.Path.{◌≡◌, sym, ◌∙◌}
-use Prim.Native.Nat.{◌-◌, ◌≤◌, ◌<◌}
+use Prim.Native.Nat.{◌≤◌, ◌<◌}
 use native.Mathlib.Omega.{arith}
 use lib.ListN.{length}
-use borrow.Author.Rules.{rules}
 use Rattle.lists.proofs.Arrays.{pad_nil}
 use Rattle.text.specs.declared.Word.TheVariants.{Number}
 use Rattle.text.specs.Text.{word_at}
 use Rattle.text.proofs.Reading.{word_advances}
-use Rattle.lines.specs.Lines.{with_cells, numbers_at}
-use Rattle.lines.proofs.CellsSoFar.{CellsSoFar, cells_none, cells_push, cells_full, cells_all, cells_other}
+use Rattle.lines.proofs.CellsSoFar.{cells_none, cells_push, cells_full, cells_all, cells_other}
 use Rattle.lines.proofs.read_cells.Goals as goal
 use Rattle.lines.proofs.read_cells.Goals.{In-Number}
 

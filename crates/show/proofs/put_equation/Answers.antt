@@ -1,12 +1,5 @@
 -- `show::put_equation` meets its contract: the four writes are one text, and the list of eight that `slots_at` gives reads as the equation's cells. Assumes nothing.
-use mathlib.Core.Path.{◌≡◌, ap, ◌∙◌}
-use mathlib.Core.List.{List}
-use Prim.Native.Nat.{ℕ}
-use native.Mathlib.Omega.{arith}
-use lib.ListN.{take}
-use Rattle.grid.specs.declared.window.UpToEight.{UpToEight}
-use Rattle.grid.specs.Window.{listed}
-use Rattle.blocks.specs.BlockSets.{slot_cells}
+use mathlib.Core.Path.{◌∙◌}
 use Rattle.blocks.proofs.Between.{slots_eight, listed_cells}
 use Rattle.text.proofs.Writing.{wrote_both}
 use Rattle.show.specs.Blocks.{equation_text}

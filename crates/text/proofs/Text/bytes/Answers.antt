@@ -1,6 +1,6 @@
 -- `Text::bytes` meets its contract: each turn writes one byte behind those before it. Assumes nothing.
 use Rattle.std.proofs.lemmas.List.{take_more}
-use Rattle.text.proofs.Writing.{wrote_none, wrote_both}
+use Rattle.text.proofs.Writing.{wrote_both}
 use Rattle.text.proofs.Text.bytes.Goals as goal
 
 pub loop-byte-preserved : goal.loop-byte-preserved
