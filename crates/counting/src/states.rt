@@ -49,13 +49,10 @@ impl Met {
         requires { place < 8192 }
         ensures { result ≡ cond (eqb (get_or self.now.tags place 0) tag && eqb (get_or self.now.keys place 0) key) (Some (eqb (get_or self.now.results place 0) 1)) None }
     {
-        if self.tags[place] != tag {
-            return None;
+        if self.tags[place] == tag && self.keys[place] == key {
+            return Some(self.results[place] == 1);
         }
-        if self.keys[place] != key {
-            return None;
-        }
-        Some(self.results[place] == 1)
+        None
     }
 
     // Keeps a state at a place of the table, with what was found from it.

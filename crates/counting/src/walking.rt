@@ -50,14 +50,11 @@ fn reach(
     ensures value { result ≡ (all (λ n. eqb n 0) unmet.now.needs && eqb (get_or allowed.now count 0) 1) }
     ensures marked { Marked (λ x. eqb count x && result) reached.old reached.new }
 {
-    if !unmet.all_met(equations) {
-        return false;
+    let found = unmet.all_met(equations) && allowed[count] == 1;
+    if found {
+        reached[count] = 1;
     }
-    if allowed[count] != 1 {
-        return false;
-    }
-    reached[count] = 1;
-    true
+    found
 }
 
 // What a walk goes by: a block over its groups, their order, and which counts are allowed. The tags of the walk begin at `first`.

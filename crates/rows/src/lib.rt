@@ -1,4 +1,5 @@
-// The rows of the solution table: the search once more, each solution written into its own part of the lent table.
+// The rows of the solution table: the search once more, which sets the groups of an order one after another and goes on to the last. Each solution is written into
+// its own part of the lent table, a byte for each group, and the next one behind it.
 #![tactic(auto)]
 
 ghost use Rattle.std.specs.Prelude.{◌≡◌, List, map, ℕ, ◌+◌, ◌*◌, ◌≤◌, ◌<◌, length, take};
