@@ -72,9 +72,7 @@ fn sweep_mines(
     ensures out_after { take result out.new ≡ sure_mines (equations_from slots.now rests.now 0 equations) }
 {
     let mut n = 0;
-    let mut e = equations;
-    while 0 < e {
-        e -= 1;
+    for e in (0..equations).rev() {
         let list = slots_at(slots, e);
         if rests[e] == ZERO_REST + list.len as u8 {
             n = add_unmarked(list, safe, marks, out, n);
@@ -99,9 +97,7 @@ fn sweep_safe(
     ensures out_after { take result out.new ≡ sure_safe (equations_from slots.now rests.now 0 equations) }
 {
     let mut n = 0;
-    let mut e = equations;
-    while 0 < e {
-        e -= 1;
+    for e in (0..equations).rev() {
         let list = slots_at(slots, e);
         if rests[e] == ZERO_REST + count_marked(mines, list) as u8 {
             n = add_unmarked(list, mines, marks, out, n);

@@ -88,9 +88,7 @@ pub fn list_blocks(
 {
     let mut out = [0u16; 1024];
     let mut k = 0;
-    let mut b = blocks;
-    while 0 < b {
-        b -= 1;
+    for b in (0..blocks).rev() {
         let first = begin_at(cell_ends, b);
         k = list_cells(cells, first, wide(cell_ends[b]), marks, 1, &mut out, k);
     }

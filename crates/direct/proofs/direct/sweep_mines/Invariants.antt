@@ -7,8 +7,4 @@ use Rattle.direct.proofs.direct.sweep_mines.Given as goal
 
 abbrev pub invariant-loop-e : goal.invariant-loop-e
 invariant-loop-e l =
-    (l.e ≤ l.equations)
-    × Sweeping (λ (x : BlockEquation). x.cells) full (sure_mines (equations_from l.slots l.rests 0 l.equations)) l.marks l.out l.n (equations_from l.slots l.rests 0 l.e)
-
-abbrev pub decreases-loop-e : goal.decreases-loop-e
-decreases-loop-e l = l.e
+    Sweeping (λ (x : BlockEquation). x.cells) full (sure_mines (equations_from l.slots l.rests 0 l.equations)) l.marks l.out l.n (equations_from l.slots l.rests 0 l.e)

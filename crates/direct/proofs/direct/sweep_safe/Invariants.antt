@@ -6,9 +6,5 @@ use Rattle.direct.proofs.direct.sweep_safe.Given as goal
 
 abbrev pub invariant-loop-e : goal.invariant-loop-e
 invariant-loop-e l =
-    (l.e ≤ l.equations)
-    × Sweeping (other_cells (sure_mines (equations_from l.slots l.rests 0 l.equations))) (none_left (sure_mines (equations_from l.slots l.rests 0 l.equations)))
+    Sweeping (other_cells (sure_mines (equations_from l.slots l.rests 0 l.equations))) (none_left (sure_mines (equations_from l.slots l.rests 0 l.equations)))
     (sure_safe (equations_from l.slots l.rests 0 l.equations)) l.marks l.out l.n (equations_from l.slots l.rests 0 l.e)
-
-abbrev pub decreases-loop-e : goal.decreases-loop-e
-decreases-loop-e l = l.e

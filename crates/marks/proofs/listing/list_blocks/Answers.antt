@@ -1,5 +1,5 @@
 -- `marks::listing::list_blocks` meets its contract. The loop's invariant: the marked cells of the first b blocks, from the last block to the first, stored from
--- place k on, give what those of all blocks give from the start. The measure is b. Rests on the laws of `Storing`. Assumes nothing.
+-- place k on, give what those of all blocks give from the start.  Rests on the laws of `Storing`. Assumes nothing.
 use Prim.Native.Nat.{ℕ, ◌-◌}
 use mathlib.Core.Path.{refl}
 use native.Mathlib.Omega.{arith}
@@ -15,16 +15,16 @@ use borrow.Author.Rules.{rules}
 use Rattle.marks.proofs.listing.list_blocks.Goals as goal
 
 pub loop-b-init : goal.loop-b-init
-loop-b-init c = (search rules, storing_start refl)
+loop-b-init c = storing_start refl
 
 pub begin_at-first-requires : goal.begin_at-first-requires
-begin_at-first-requires c = omega (arith, c.requires.parts.few, c.loop-b.invariant.0)
+begin_at-first-requires c = omega (arith, c.requires.parts.few)
 
 pub offset_bounds-cell_ends-b : goal.offset_bounds-cell_ends-b
-offset_bounds-cell_ends-b c = omega (arith, c.requires.parts.few, c.loop-b.invariant.0)
+offset_bounds-cell_ends-b c = omega (arith, c.requires.parts.few)
 
 pub bounds-cell_ends-b : goal.bounds-cell_ends-b
-bounds-cell_ends-b c = omega (arith, c.requires.parts.few, c.loop-b.invariant.0, c.loop-b-test.true)
+bounds-cell_ends-b c = omega (arith, c.requires.parts.few, c.loop-b-test.true)
 
 pub list_cells-k-requires : goal.list_cells-k-requires
 list_cells-k-requires c =
@@ -32,7 +32,7 @@ list_cells-k-requires c =
     let test = c.loop-b-test.true in
     let last = cells_with c.args.marks.now 1 c.args.cells.now (begin_at c.args.cell_ends.now (loop.b - 1)) (get_or c.args.cell_ends.now (loop.b - 1) 0) in
     let before = all_with c.args.marks.now c.args.cells.now c.args.cell_ends.now (loop.b - 1) in
-    rw (c.wide.ensures, c.begin_at-first.ensures) record { cells = c.requires.parts.in_cells (loop.b - 1) (omega (arith, loop.invariant.0, test)); out_len = loop.invariant.1.long; end_bound = run_room loop.invariant.1 last before (all_last c.args.marks.now c.args.cells.now c.args.cell_ends.now loop.b test) 1024 (omega (arith, c.requires.blocks_len_bound)) }
+    rw (c.wide.ensures, c.begin_at-first.ensures) record { cells = c.requires.parts.in_cells (loop.b - 1) (omega (arith, test)); out_len = loop.invariant.long; end_bound = run_room loop.invariant last before (all_last c.args.marks.now c.args.cells.now c.args.cell_ends.now loop.b test) 1024 (omega (arith, c.requires.blocks_len_bound)) }
 
 pub loop-b-preserved : goal.loop-b-preserved
 loop-b-preserved c =
@@ -41,10 +41,10 @@ loop-b-preserved c =
     let put = rw (c.wide.ensures, c.begin_at-first.ensures) at c.list_cells-k.ensures in
     let last = cells_with c.args.marks.now 1 c.args.cells.now (begin_at c.args.cell_ends.now (loop.b - 1)) (get_or c.args.cell_ends.now (loop.b - 1) 0) in
     let before = all_with c.args.marks.now c.args.cells.now c.args.cell_ends.now (loop.b - 1) in
-    (omega (arith, loop.invariant.0), run_next loop.invariant.1 last before (all_last c.args.marks.now c.args.cells.now c.args.cell_ends.now loop.b test) _ put.out_after _ put.value)
+    run_next loop.invariant last before (all_last c.args.marks.now c.args.cells.now c.args.cell_ends.now loop.b test) _ put.out_after _ put.value
 
 pub returns : goal.returns
 returns c =
     let loop = c.loop-b in
-    let end = run_end loop.invariant.1 (all_none c.args.marks.now c.args.cells.now c.args.cell_ends.now loop.b c.loop-b-test.false) in
+    let end = run_end loop.invariant (all_none c.args.marks.now c.args.cells.now c.args.cell_ends.now loop.b c.loop-b-test.false) in
     rw (end.0, end.1, filled_sets {A = ℕ} 1024 0 _ c.requires.blocks_len_bound, zero-add (length (all_with c.args.marks.now c.args.cells.now c.args.cell_ends.now c.args.blocks)))
