@@ -36,7 +36,7 @@ fn add_unmarked(
 ) -> usize
     requires on_board { OnBoard list }
     requires listed { Listed marks.old out.old at }
-    ensures listed_2 { Listed marks.new out.new result }
+    ensures still_listed { Listed marks.new out.new result }
     ensures out_after { take result out.new ≡ add_new (take at out.old) (keep (λ c. not (marked there.now c)) (reverse (take list.len list.cells))) }
 {
     let cells = list.cells;
@@ -68,7 +68,7 @@ fn sweep_mines(
     requires slots { Slots slots.now equations }
     requires marks { Marks safe.now [] }
     requires listed { Listed marks.old out.old 0 }
-    ensures listed_2 { Listed marks.new out.new result }
+    ensures still_listed { Listed marks.new out.new result }
     ensures out_after { take result out.new ≡ sure_mines (equations_from slots.now rests.now 0 equations) }
 {
     let mut n = 0;
@@ -93,7 +93,7 @@ fn sweep_safe(
     requires slots { Slots slots.now equations }
     requires marks { Marks mines.now (sure_mines (equations_from slots.now rests.now 0 equations)) }
     requires listed { Listed marks.old out.old 0 }
-    ensures listed_2 { Listed marks.new out.new result }
+    ensures still_listed { Listed marks.new out.new result }
     ensures out_after { take result out.new ≡ sure_safe (equations_from slots.now rests.now 0 equations) }
 {
     let mut n = 0;

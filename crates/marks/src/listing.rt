@@ -60,7 +60,7 @@ pub fn list_cells(
 ) -> usize
     requires cells { Cells cells.now end }
     requires out_len { length out.old ≡ 1024 }
-    requires end_bound { at + length (cells_with marks.now mark cells.now first end) ≤ 1024 }
+    requires room { at + length (cells_with marks.now mark cells.now first end) ≤ 1024 }
     ensures value { result ≡ at + length (cells_with marks.now mark cells.now first end) }
     ensures out_after { out.new ≡ sets out.old at (cells_with marks.now mark cells.now first end) }
 {
@@ -83,7 +83,7 @@ pub fn list_blocks(
     marks: &[u8; 1024],
 ) -> CellList
     requires parts { Parts cells.now cell_ends.now blocks }
-    requires blocks_len_bound { length (all_with marks.now cells.now cell_ends.now blocks) ≤ 1024 }
+    requires room { length (all_with marks.now cells.now cell_ends.now blocks) ≤ 1024 }
     ensures { result ≡ cell_list (all_with marks.now cells.now cell_ends.now blocks) }
 {
     let mut out = [0u16; 1024];

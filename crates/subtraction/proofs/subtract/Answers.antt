@@ -24,12 +24,12 @@ subtract_blocks-marks-requires c =
 pub list_blocks-requires : goal.list_blocks-requires
 list_blocks-requires c =
     let marks = c.subtract_blocks-marks in
-    record { parts = parts c.args.set.now c.requires.whole; blocks_len_bound = safe_fit c.args.set.now c.requires.whole c.requires.ready marks.result.mines marks.result.safe marks.ensures.mines marks.ensures.safe }
+    record { parts = parts c.args.set.now c.requires.whole; room = safe_fit c.args.set.now c.requires.whole c.requires.ready marks.result.mines marks.result.safe marks.ensures.mines marks.ensures.safe }
 
 pub list_blocks-requires-2 : goal.list_blocks-requires-2
 list_blocks-requires-2 c =
     let marks = c.subtract_blocks-marks in
-    record { parts = parts c.args.set.now c.requires.whole; blocks_len_bound = mines_fit c.args.set.now c.requires.whole c.requires.ready marks.result.mines marks.result.safe marks.ensures.mines marks.ensures.safe }
+    record { parts = parts c.args.set.now c.requires.whole; room = mines_fit c.args.set.now c.requires.whole c.requires.ready marks.result.mines marks.result.safe marks.ensures.mines marks.ensures.safe }
 
 pub returns : goal.returns
 returns c =

@@ -90,4 +90,4 @@ loop-i-preserved c =
 pub returns : goal.returns
 returns c =
     let loop = c.loop-i in
-    let len = c.args.list.len in record { listed_2 = loop.invariant.1.listed; out_after = adding_end c.args.there.now c.args.list.cells _ loop.marks loop.out loop.n (len - loop.i) loop.invariant.1 (omega (arith, c.loop-i-test.false)) }
+    let len = c.args.list.len in record { still_listed = loop.invariant.1.listed; out_after = adding_end c.args.there.now c.args.list.cells _ loop.marks loop.out loop.n (len - loop.i) loop.invariant.1 (omega (arith, c.loop-i-test.false)) }

@@ -2,7 +2,6 @@
 -- mines. Rests on the laws of `Sweeping`. Assumes nothing.
 use mathlib.Core.Path.{refl}
 use native.Mathlib.Omega.{arith}
-use borrow.Author.Rules.{rules}
 use Rattle.blocks.specs.Places.{OnBoard}
 use Rattle.blocks.proofs.Between.{listed_on_board}
 use Rattle.direct.specs.Direct.{sure_mines}
@@ -38,22 +37,22 @@ pub loop-e-preserved-then-rests-e : goal.loop-e-preserved-then-rests-e
 loop-e-preserved-then-rests-e c =
     let loop = c.loop-e in
     let at = c.slots_at-list in
-      sweeping_given loop.invariant _ _
-          (equations_back c.args.slots.now c.args.rests.now loop.e c.loop-e-test.true)
-          (asked_full at.result c.args.slots.now c.args.rests.now _ at.ensures c.if-rests-e.true)
-          c.add_unmarked-n.ensures.listed_2
-          (added_all at.result c.args.slots.now c.args.rests.now _ at.ensures c.args.safe.now _ _ c.requires.marks c.add_unmarked-n.ensures.out_after)
+    sweeping_given loop.invariant _ _
+    (equations_back c.args.slots.now c.args.rests.now loop.e c.loop-e-test.true)
+    (asked_full at.result c.args.slots.now c.args.rests.now _ at.ensures c.if-rests-e.true)
+    c.add_unmarked-n.ensures.still_listed
+    (added_all at.result c.args.slots.now c.args.rests.now _ at.ensures c.args.safe.now _ _ c.requires.marks c.add_unmarked-n.ensures.out_after)
 
 pub loop-e-preserved : goal.loop-e-preserved
 loop-e-preserved c =
     let loop = c.loop-e in
     let at = c.slots_at-list in
-      sweeping_passed loop.invariant _ _
-          (equations_back c.args.slots.now c.args.rests.now loop.e c.loop-e-test.true)
-          (asked_not_full at.result c.args.slots.now c.args.rests.now _ at.ensures c.if-rests-e.false)
+    sweeping_passed loop.invariant _ _
+    (equations_back c.args.slots.now c.args.rests.now loop.e c.loop-e-test.true)
+    (asked_not_full at.result c.args.slots.now c.args.rests.now _ at.ensures c.if-rests-e.false)
 
 pub returns : goal.returns
 returns c =
     let loop = c.loop-e in
     let both = sweeping_end loop.invariant (equations_before c.args.slots.now c.args.rests.now loop.e (omega (arith, c.loop-e-test.false))) in
-    record { listed_2 = both.0; out_after = both.1 }
+    record { still_listed = both.0; out_after = both.1 }

@@ -1,4 +1,3 @@
-use Prim.Native.Nat.{◌≤◌}
 use Rattle.blocks.specs.Blocks.{BlockEquation}
 use Rattle.blocks.specs.Places.{equations_from}
 use Rattle.direct.specs.Direct.{full, sure_mines}

@@ -3,7 +3,6 @@
 use Prim.Native.Nat.{◌≤◌}
 use mathlib.Core.Path.{sym}
 use native.Mathlib.Omega.{arith}
-use borrow.Author.Rules.{rules}
 use Rattle.blocks.specs.Places.{OnBoard, equations_from}
 use Rattle.blocks.proofs.Between.{listed_on_board}
 use Rattle.direct.proofs.Sweeps.{sweeping_end, sweeping_given, sweeping_passed, equations_back, equations_before, safe_asked_of_all, counted_few, asked_none_left, asked_some_left, added_others}
@@ -45,23 +44,23 @@ loop-e-preserved-then-rests-e c =
     let loop = c.loop-e in
     let at = c.slots_at-list in
     let count = c.count_marked in
-      sweeping_given loop.invariant _ _
-          (equations_back c.args.slots.now c.args.rests.now loop.e c.loop-e-test.true)
-          (asked_none_left at.result c.args.slots.now c.args.rests.now _ at.ensures c.args.mines.now _ c.requires.marks _ count.ensures c.if-rests-e.true)
-          c.add_unmarked-n.ensures.listed_2
-          (added_others at.result c.args.slots.now c.args.rests.now _ at.ensures c.args.mines.now _ c.requires.marks _ _ c.add_unmarked-n.ensures.out_after)
+    sweeping_given loop.invariant _ _
+    (equations_back c.args.slots.now c.args.rests.now loop.e c.loop-e-test.true)
+    (asked_none_left at.result c.args.slots.now c.args.rests.now _ at.ensures c.args.mines.now _ c.requires.marks _ count.ensures c.if-rests-e.true)
+    c.add_unmarked-n.ensures.still_listed
+    (added_others at.result c.args.slots.now c.args.rests.now _ at.ensures c.args.mines.now _ c.requires.marks _ _ c.add_unmarked-n.ensures.out_after)
 
 pub loop-e-preserved : goal.loop-e-preserved
 loop-e-preserved c =
     let loop = c.loop-e in
     let at = c.slots_at-list in
     let count = c.count_marked in
-      sweeping_passed loop.invariant _ _
-          (equations_back c.args.slots.now c.args.rests.now loop.e c.loop-e-test.true)
-          (asked_some_left at.result c.args.slots.now c.args.rests.now _ at.ensures c.args.mines.now _ c.requires.marks _ count.ensures c.if-rests-e.false)
+    sweeping_passed loop.invariant _ _
+    (equations_back c.args.slots.now c.args.rests.now loop.e c.loop-e-test.true)
+    (asked_some_left at.result c.args.slots.now c.args.rests.now _ at.ensures c.args.mines.now _ c.requires.marks _ count.ensures c.if-rests-e.false)
 
 pub returns : goal.returns
 returns c =
     let loop = c.loop-e in
     let both = sweeping_end loop.invariant (equations_before c.args.slots.now c.args.rests.now loop.e (omega (arith, c.loop-e-test.false))) in
-    record { listed_2 = both.0; out_after = both.1 }
+    record { still_listed = both.0; out_after = both.1 }

@@ -1,4 +1,3 @@
-use Prim.Native.Nat.{◌≤◌}
 use Rattle.blocks.specs.Places.{equations_from}
 use Rattle.direct.specs.Direct.{sure_mines, sure_safe}
 use Rattle.direct.proofs.Sweeps.{Sweeping, none_left, other_cells}

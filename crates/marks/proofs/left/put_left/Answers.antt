@@ -18,7 +18,7 @@ pub next_cell-k-requires : goal.next_cell-k-requires
 next_cell-k-requires c = omega (arith, blocks_held c.args.out c.requires.room.held, c.requires.room.held.fits.few_blocks)
 
 pub list_cells-last-requires : goal.list_cells-last-requires
-list_cells-last-requires c = record { cells = c.requires.arrays.in_cells; out_len = cells_long c.args.out c.requires.room.held; end_bound = left_cells_fit c.args.known.now.subtracted c.args.known.now.mines c.args.known.now.cells c.args.set.now.cells c.args.set.now.slots c.args.set.now.rests c.args.bounds c.args.out c.requires.room _ c.next_cell-k.ensures }
+list_cells-last-requires c = record { cells = c.requires.arrays.in_cells; out_len = cells_long c.args.out c.requires.room.held; room = left_cells_fit c.args.known.now.subtracted c.args.known.now.mines c.args.known.now.cells c.args.set.now.cells c.args.set.now.slots c.args.set.now.rests c.args.bounds c.args.out c.requires.room _ c.next_cell-k.ensures }
 
 pub returns-then-last-k : goal.returns-then-last-k
 returns-then-last-k c = left_nothing c.args.known.now.subtracted c.args.known.now.mines c.args.known.now.cells c.args.set.now.cells c.args.set.now.slots c.args.set.now.rests c.args.bounds c.args.out c.requires.room _ c.next_cell-k.ensures _ c.list_cells-last.ensures.value _ c.list_cells-last.ensures.out_after c.if-known.true c.if-last-k.true

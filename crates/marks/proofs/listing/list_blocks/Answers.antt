@@ -11,7 +11,6 @@ use Rattle.blocks.specs.BlockSets.{begin_at}
 use Rattle.marks.specs.Marked.{cells_with, all_with}
 use Rattle.marks.proofs.ByMarks.{all_last, all_none}
 use Rattle.lists.proofs.StoredAndKept.{run_room, run_next, run_end}
-use borrow.Author.Rules.{rules}
 use Rattle.marks.proofs.listing.list_blocks.Goals as goal
 
 pub loop-b-init : goal.loop-b-init
@@ -32,7 +31,7 @@ list_cells-k-requires c =
     let test = c.loop-b-test.true in
     let last = cells_with c.args.marks.now 1 c.args.cells.now (begin_at c.args.cell_ends.now (loop.b - 1)) (get_or c.args.cell_ends.now (loop.b - 1) 0) in
     let before = all_with c.args.marks.now c.args.cells.now c.args.cell_ends.now (loop.b - 1) in
-    rw (c.wide.ensures, c.begin_at-first.ensures) record { cells = c.requires.parts.in_cells (loop.b - 1) (omega (arith, test)); out_len = loop.invariant.long; end_bound = run_room loop.invariant last before (all_last c.args.marks.now c.args.cells.now c.args.cell_ends.now loop.b test) 1024 (omega (arith, c.requires.blocks_len_bound)) }
+    rw (c.wide.ensures, c.begin_at-first.ensures) record { cells = c.requires.parts.in_cells (loop.b - 1) (omega (arith, test)); out_len = loop.invariant.long; room = run_room loop.invariant last before (all_last c.args.marks.now c.args.cells.now c.args.cell_ends.now loop.b test) 1024 (omega (arith, c.requires.room)) }
 
 pub loop-b-preserved : goal.loop-b-preserved
 loop-b-preserved c =
@@ -47,4 +46,4 @@ pub returns : goal.returns
 returns c =
     let loop = c.loop-b in
     let end = run_end loop.invariant (all_none c.args.marks.now c.args.cells.now c.args.cell_ends.now loop.b c.loop-b-test.false) in
-    rw (end.0, end.1, filled_sets {A = ℕ} 1024 0 _ c.requires.blocks_len_bound, zero-add (length (all_with c.args.marks.now c.args.cells.now c.args.cell_ends.now c.args.blocks)))
+    rw (end.0, end.1, filled_sets {A = ℕ} 1024 0 _ c.requires.room, zero-add (length (all_with c.args.marks.now c.args.cells.now c.args.cell_ends.now c.args.blocks)))

@@ -22,7 +22,7 @@ room : (c : Then-marks-wide) → c.loop-i.k < 1024
 room c =
     let loop = c.loop-i in
     let wide = c.wide in
-    storing_room loop.invariant (listed_kept c.args.marks.now c.args.mark c.args.cells.now loop.i c.args.end wide.result wide.ensures c.loop-i-test.true (eq-eqb _ _ c.if-marks-wide.true)) 1024 c.requires.end_bound
+    storing_room loop.invariant (listed_kept c.args.marks.now c.args.mark c.args.cells.now loop.i c.args.end wide.result wide.ensures c.loop-i-test.true (eq-eqb _ _ c.if-marks-wide.true)) 1024 c.requires.room
 
 pub offset_bounds-out-k : goal.offset_bounds-out-k
 offset_bounds-out-k c = omega (arith, room c)
