@@ -7,7 +7,7 @@ ghost use Rattle.std.proofs.lemmas.List.Edits.{sets};
 ghost use Rattle.lists.specs.Lists.{any, pad};
 ghost use Rattle.grid.specs.Window.{listed};
 ghost use Rattle.blocks.specs.BlockSets.{block_set, slot_cells, begin_at};
-ghost use Rattle.blocks.specs.Places.{marked, Marks, cells_in, OnBoard, bounds_at, bounds_of, cells_from, block_ended};
+ghost use Rattle.blocks.specs.Places.{marked, Marks, cells_in, OnBoard, bounds_of, cells_from, block_ended};
 
 use grid::window::{UpToEight, wide};
 
@@ -86,26 +86,18 @@ pub fn begin_at(ends: &[u16; 1024], k: usize) -> usize
     if k == 0 { 0 } else { wide(ends[k - 1]) }
 }
 
-// Where block b begins and ends.
-pub fn bounds_at(cell_ends: &[u16; 1024], equation_ends: &[u16; 1024], b: usize) -> Bounds
-    requires { b < 1024 }
-    ensures { result ≡ bounds_at cell_ends.now equation_ends.now b }
-{
-    Bounds {
-        first_cell: begin_at(cell_ends, b),
-        end_cell: wide(cell_ends[b]),
-        first_equation: begin_at(equation_ends, b),
-        end_equation: wide(equation_ends[b]),
-    }
-}
-
 impl BlockSet {
     // Where block b of the set begins and ends.
     pub fn bounds_at(&self, b: usize) -> Bounds
         requires { b < 1024 }
         ensures { result ≡ bounds_of self.now b }
     {
-        bounds_at(&self.cell_ends, &self.equation_ends, b)
+        Bounds {
+            first_cell: begin_at(&self.cell_ends, b),
+            end_cell: wide(self.cell_ends[b]),
+            first_equation: begin_at(&self.equation_ends, b),
+            end_equation: wide(self.equation_ends[b]),
+        }
     }
 
     // The cells between these bounds.
