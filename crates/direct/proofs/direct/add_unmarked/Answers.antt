@@ -1,4 +1,4 @@
--- `rules::direct::add_unmarked` meets its contract. The loop's invariant: what is listed, with what the cells not yet met, the first len - i, still add, is
+-- `direct::direct::add_unmarked` meets its contract. The loop's invariant: what is listed, with what the cells not yet met, the first len - i, still add, is
 -- the whole. The measure is their number. Rests on the laws of `Adding`. Assumes nothing.
 use Prim.Native.Nat.{◌+◌, ◌-◌, ◌≤◌, ◌<◌}
 use mathlib.Core.Path.{◌≡◌, refl}

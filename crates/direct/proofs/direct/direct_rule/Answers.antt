@@ -1,4 +1,4 @@
--- `rules::direct::direct_rule` meets its contract. The equations read are those of all blocks; the two sweeps list the mines and the safe cells of all of
+-- `direct::direct::direct_rule` meets its contract. The equations read are those of all blocks; the two sweeps list the mines and the safe cells of all of
 -- them; what is left by their marks is what the direct rule leaves, and the set that holds it has a negative remainder exactly where one of its blocks
 -- has. Rests on the laws of all blocks at once. Assumes nothing.
 use mathlib.Core.Path.{◌≡◌, sym, ap, ◌∙◌}

@@ -1,4 +1,4 @@
--- `rules::direct::sweep` meets its contract: the two sweeps list the mines and the safe cells of the equations. Rests on the laws of listed cells. Assumes
+-- `direct::direct::sweep` meets its contract: the two sweeps list the mines and the safe cells of the equations. Rests on the laws of listed cells. Assumes
 -- nothing.
 use Rattle.blocks.proofs.MarkLaws.{marks_none}
 use Rattle.direct.proofs.ListedCells.{listed_none, listed_is}

@@ -1,4 +1,4 @@
--- `rules::direct::sweep_mines` meets its contract. The loop's invariant: what is listed, with what the first e equations still add, is the whole list of
+-- `direct::direct::sweep_mines` meets its contract. The loop's invariant: what is listed, with what the first e equations still add, is the whole list of
 -- mines. Rests on the laws of `Sweeping`. Assumes nothing.
 use mathlib.Core.Path.{refl}
 use native.Mathlib.Omega.{arith}

@@ -1,4 +1,4 @@
--- `rules::direct::sweep_safe` meets its contract. The loop's invariant: what is listed, with what the first e equations still add, is the whole list of
+-- `direct::direct::sweep_safe` meets its contract. The loop's invariant: what is listed, with what the first e equations still add, is the whole list of
 -- safe cells, where every equation is asked whether its mines are all known. Rests on the laws of `Sweeping`. Assumes nothing.
 use Prim.Native.Nat.{◌≤◌}
 use mathlib.Core.Path.{sym}

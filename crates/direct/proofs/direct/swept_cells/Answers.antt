@@ -1,4 +1,4 @@
--- `rules::direct::swept_cells` meets its contract: it hands on the lists of the sweeps. Rests on `lists_swept`. Assumes nothing.
+-- `direct::direct::swept_cells` meets its contract: it hands on the lists of the sweeps. Rests on `lists_swept`. Assumes nothing.
 use Rattle.direct.proofs.DirectAnswer.{lists_swept}
 use Rattle.direct.proofs.direct.swept_cells.Goals as goal
 

@@ -1,4 +1,4 @@
--- `direct::answer::Lists::none` meets its contract. Assumes nothing.
+-- `direct::answer::Lists::none` meets its contract: neither list has a cell. Assumes nothing.
 use Rattle.direct.specs.Answers.{lists_of}
 use Rattle.direct.proofs.answer.Lists.none.Goals as goal
 
