@@ -1,6 +1,6 @@
 -- Rounds and grade of a verdict, for every input: rounds never exceed the cells of the board; the grade is 4 exactly where the verdict is no, and a yes has the
 -- grade of a rule, or 0 where no pass found a cell. A refusal has neither. Rests on `rounds_cells`, `grade_of_a_rule` and `grade_zero` of the crate fitting. Assumes nothing.
-use Rattle.std.specs.Prelude.{Ok}
+use Rattle.std.specs.Prelude.{Err, Ok}
 use mathlib.Core.Path.{◌≡◌, refl, sym, ap}
 use mathlib.Core.Logic.{inl, inr, ◌↔◌, ◌≢◌}
 use mathlib.Core.Bool.{Bool, true, false}
@@ -25,9 +25,7 @@ use Rattle.subtraction.specs.Minus.{subtraction}
 use Rattle.enumeration.specs.ThreeRules.{three_rules}
 use Rattle.verdict.specs.Rules.{layouts_of}
 use Rattle.verdict.proofs.KindsOfBoard.{own_passes, rules_sound}
-use Rattle.verdict.specs.declared.Verdict.{Verdict}
-use Rattle.verdict.specs.declared.Verdict.TheVariants.{Refused, Judged}
-use Rattle.verdict.specs.Verdict.{verdict_number, verdict_yes, verdict_grade, verdict_rounds, board_grade, VerdictSeen, verdict_seen, verdict_after_tests, judged_from, is_solvable}
+use Rattle.verdict.specs.Verdict.{VerdictAnswer, verdict_of, verdict_number, verdict_yes, verdict_grade, verdict_rounds, board_grade, VerdictSeen, verdict_seen, verdict_after_tests, judged_from, is_solvable}
 use Rattle.refusals.proofs.Admitted.{tested_accepted}
 
 -- the three rules have the grades 1, 2 and 3
@@ -44,7 +42,7 @@ three_grades near p = go (decided (nothing (rule_of near direct 1 p))) (decided 
 -- ---- what the grade of an answer tells
 
 -- where the strongest rule has the grade `most`
-pub record GradeTellsUpTo (most : ℕ) (v : Verdict) : Type 0 where
+pub record GradeTellsUpTo (most : ℕ) (v : VerdictAnswer) : Type 0 where
   -- it is 4 exactly where the verdict is no
   pub four : verdict_number v ≡ 0 → (verdict_grade v ≡ 4) ↔ (verdict_yes v ≡ false)
   -- a yes has the grade of a rule
@@ -53,12 +51,12 @@ pub record GradeTellsUpTo (most : ℕ) (v : Verdict) : Type 0 where
   pub none : verdict_yes v ≡ true → (verdict_grade v ≡ 0) ↔ (verdict_rounds v ≡ 0)
 
 -- on a plain board that is enumeration
-abbrev pub GradeTells : Verdict → Type 0
+abbrev pub GradeTells : VerdictAnswer → Type 0
 GradeTells v = GradeTellsUpTo 3 v
 
 -- that of a board does, where the strongest rule's is at most so much and is not 4, and 0 exactly without a round
 pub board_grade_tells : (most : ℕ) (answer : Bool) (n strongest rounds : ℕ) → (strongest ≤ most) × (strongest ≢ 4) → (strongest ≡ 0) ↔ (rounds ≡ 0)
-    → GradeTellsUpTo most (Judged answer n (board_grade answer strongest) rounds)
+    → GradeTellsUpTo most (verdict_of answer n (board_grade answer strongest) rounds)
 board_grade_tells most true n strongest rounds few zero = record {
   four = λ _. (λ e. absurd (few.1 e), λ e. clash true refl e);
   of_a_rule = λ _. few.0;
@@ -71,7 +69,7 @@ board_grade_tells most false n strongest rounds few zero = record {
 }
 
 -- a refusal has none
-pub refusal_tells : (most : ℕ) (r : Refusal) → GradeTellsUpTo most (Refused r)
+pub refusal_tells : (most : ℕ) (r : Refusal) → GradeTellsUpTo most (Err r)
 refusal_tells most r = record {
   four = λ e. absurd (eqb-false (refusal_number r) 0 (refusal_not_zero r) e);
   of_a_rule = λ e. clash true refl (sym e);
@@ -109,7 +107,7 @@ module _ (edgeless : Bool) (rows columns row column : ℕ) (b shown opened_in : 
     where
       go : (t : Tested) → GradeTells (verdict_after_tests t judged shown opened_in).answer
       go (Ok _) = judged_grade (neighbours edgeless rows columns) b (start_cell columns row column)
-      go (TestRefused x) = refusal_tells 3 x
+      go (Err x) = refusal_tells 3 x
 
   -- rounds never exceed the cells
   pub rounds_at_most_cells : verdict_rounds (is_solvable edgeless rows columns row column b shown opened_in).answer ≤ length b
@@ -121,10 +119,10 @@ module _ (edgeless : Bool) (rows columns row column : ℕ) (b shown opened_in : 
           let accepted = accepted_board edgeless rows columns row column b lent e in
           rounds_cells (neighbours edgeless rows columns) (layouts_of false b) b (three_rules (neighbours edgeless rows columns)) (start_cell columns row column)
           (tested_accepted edgeless rows columns row column b lent e) (own_passes false b) accepted.start_within accepted.start_safe_lem (rules_sound edgeless rows columns b false)
-      go (TestRefused x) e = omega arith
+      go (Err x) e = omega arith
 
   -- so of an answer that is the definition's
-  pub answer_bounds : (r : Verdict) (after rounds : List ℕ) → verdict_seen r after rounds ≡ is_solvable edgeless rows columns row column b shown opened_in → (verdict_rounds r ≤ length b) × GradeTells r
+  pub answer_bounds : (r : VerdictAnswer) (after rounds : List ℕ) → verdict_seen r after rounds ≡ is_solvable edgeless rows columns row column b shown opened_in → (verdict_rounds r ≤ length b) × GradeTells r
   answer_bounds r after rounds e =
       let same : r ≡ (is_solvable edgeless rows columns row column b shown opened_in).answer = ap (λ (w : VerdictSeen). w.answer) e in
       (rw same rounds_at_most_cells, rw same grade_tells)

@@ -1,5 +1,6 @@
 -- Demand 3 of what the verdict answers, whole: for every board that the tests accept, and every list of asks, since the definition of the
 -- answer is the passes over the board's rules, which are sound and complete. Rests on `judge_demand_3_among` of the crate fitting and on KindsOfBoard. Assumes nothing.
+use Rattle.std.specs.Prelude.{Err}
 use mathlib.Core.Path.{◌≡◌, refl, ap, ◌∙◌}
 use mathlib.Core.Bool.{Bool, false}
 use mathlib.Core.List.{List, [], ◌∷◌}
@@ -14,15 +15,13 @@ use Rattle.fitting.specs.Passes.{Ending, judge}
 use Rattle.fitting.specs.Demand.{Demand3Among, picture, opened}
 use Rattle.fitting.proofs.Passes.{judge_demand_3_among}
 use Rattle.verdict.specs.Rules.{rules_of, layouts_of}
-use Rattle.verdict.specs.declared.Verdict.{Verdict}
-use Rattle.verdict.specs.declared.Verdict.TheVariants.{Refused}
-use Rattle.verdict.specs.Verdict.{VerdictSeen, verdict_seen, judged_from, verdict_after_tests, is_solvable, MeetsDemand3}
+use Rattle.verdict.specs.Verdict.{VerdictAnswer, VerdictSeen, verdict_seen, judged_from, verdict_after_tests, is_solvable, MeetsDemand3}
 use Rattle.verdict.proofs.KindsOfBoard.{own_passes, rules_sound, rules_complete}
 use Rattle.refusals.proofs.Admitted.{tested_accepted}
 use Rattle.refusals.specs.Refusals.{Accepted, Tested}
 
 -- after the tests: a refusal is the answer, and both slices stay as they were; a board that they accept is judged
-pub after_refusal : (t : Tested) (w : VerdictSeen) (shown opened_in : List ℕ) (x : Refusal) → t ≡ TestRefused x → verdict_seen (Refused x) shown opened_in ≡ verdict_after_tests t w shown opened_in
+pub after_refusal : (t : Tested) (w : VerdictSeen) (shown opened_in : List ℕ) (x : Refusal) → t ≡ Err x → verdict_seen (Err x) shown opened_in ≡ verdict_after_tests t w shown opened_in
 after_refusal t w shown opened_in x refuses = rw refuses
 
 pub after_acceptance : (t : Tested) (w : VerdictSeen) (shown opened_in : List ℕ) → t ≡ Accepted → verdict_after_tests t w shown opened_in ≡ w
@@ -57,7 +56,7 @@ module _ (edgeless : Bool) (rows columns row column : ℕ) (b shown opened_in : 
         (rules_sound edgeless rows columns b total) (rules_complete edgeless rows columns b total)
 
     -- demand 3 of an answer that is the definition's
-    pub answer_demand_3 : (r : Verdict) (after rounds : List ℕ) → verdict_seen r after rounds ≡ is_solvable edgeless rows columns row column b shown opened_in
+    pub answer_demand_3 : (r : VerdictAnswer) (after rounds : List ℕ) → verdict_seen r after rounds ≡ is_solvable edgeless rows columns row column b shown opened_in
         → MeetsDemand3 (neighbours edgeless rows columns) b (start_cell columns row column) r after
     answer_demand_3 r after rounds e =
         let told = e ∙ tests_accept in

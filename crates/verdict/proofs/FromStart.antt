@@ -23,9 +23,8 @@ use Rattle.rounds.specs.Rounds.{rounds_of, judge_rounds}
 use Rattle.rounds.specs.GivenRounds.{round_given}
 use Rattle.rounds.proofs.GivenRounds.{given_next}
 use Rattle.verdict.specs.declared.passes.Ending.{Ending as PassesEnd}
-use Rattle.verdict.specs.declared.Verdict.TheVariants.{Judged}
 use Rattle.verdict.specs.Findings.{end_of}
-use Rattle.verdict.specs.Verdict.{board_grade, verdict_seen, judged_by}
+use Rattle.verdict.specs.Verdict.{verdict_of, board_grade, verdict_seen, judged_by}
 use Rattle.verdict.proofs.Underway.{Ends}
 
 module _ {rows columns : ℕ} {b : List ℕ} (board : Board b rows columns) (s : ℕ) (l : s < length b) where
@@ -69,5 +68,5 @@ module _ (edgeless : Bool) {rows columns : ℕ} {b : List ℕ} (board : Board b 
       → last ≡ (judge (neighbours edgeless rows columns) b rule s).position
       → {opened_in : List ℕ} → opened_in ≡ judge_rounds (neighbours edgeless rows columns) b rule s
       → {n grade : ℕ} {shown : List ℕ} → n ≡ opened last → shown ≡ picture last → grade ≡ board_grade e.yes e.grade
-      → verdict_seen (Judged e.yes n grade e.rounds) shown opened_in ≡ judged_by (neighbours edgeless rows columns) b rule s
+      → verdict_seen (verdict_of e.yes n grade e.rounds) shown opened_in ≡ judged_by (neighbours edgeless rows columns) b rule s
   passes_told rule ends at rounds count shows graded = rw (graded, count, shows, at, ends, rounds)

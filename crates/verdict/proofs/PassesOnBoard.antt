@@ -55,17 +55,17 @@ module _ (total edgeless : Bool) {rows columns : ℕ} {b : List ℕ} (board : Bo
   -- before the last pass, with a safe cell that isn't open
   module _ (before : k < length b) (shut : all_open b p ≡ false) (r : Finding) (found : Finds (rows * columns) (rules_of total (neighbours edgeless rows columns) b p) r) where
     -- the rules found nothing
-    pub found_nothing : r.safe.count + r.mines.count ≡ 0
+    pub found_nothing : r.lists.safe.count + r.lists.mines.count ≡ 0
         → Ends (neighbours edgeless rows columns) b (rules_of total (neighbours edgeless rows columns) b) (length b) p₀ (ending false p grade rounds) opened_in
     found_nothing none = ends_stuck (neighbours edgeless rows columns) b (rules_of total (neighbours edgeless rows columns) b) u before shut (finds_nothing found none)
 
     -- the mines that they found are marked and the safe cells opened
-    pub found_cells : Accepted (neighbours edgeless rows columns) b → r.safe.count + r.mines.count ≢ 0
-        → (q : List ℕ) → q ≡ open_cells (neighbours edgeless rows columns) b (written 11 (list_in r.mines) p) (list_in r.safe)
+    pub found_cells : Accepted (neighbours edgeless rows columns) b → r.lists.safe.count + r.lists.mines.count ≢ 0
+        → (q : List ℕ) → q ≡ open_cells (neighbours edgeless rows columns) b (written 11 (list_in r.lists.mines) p) (list_in r.lists.safe)
         → (g : ℕ) → g ≡ max grade r.grade → (given : List ℕ) → given ≡ round_given (rounds + 1) q opened_in
         → OnBoard total edgeless rows columns b p₀ (k + 1) q g (rounds + 1) given
     found_cells ok some q opens g greatest given gives =
         let near = neighbours edgeless rows columns in
         underway_next near b (rules_of total near b) u before shut (layouts_of total b) ok (own_passes total b) (rules_sound edgeless rows columns b total) (finds_cell found some) (few_rounds before)
-        q (opens ∙ rw (marks_written p (list_in r.mines)) (finds_pass found near b ok (λ c _. neighbours_few edgeless rows columns c) p same_cells))
+        q (opens ∙ rw (marks_written p (list_in r.lists.mines)) (finds_pass found near b ok (λ c _. neighbours_few edgeless rows columns c) p same_cells))
         g (greatest ∙ rw found.same_grade) given gives

@@ -17,8 +17,7 @@ use Rattle.rounds.specs.Rounds.{judge_rounds}
 use Rattle.rounds.proofs.Rounds.{RoundTells, round_tells, tells_picture}
 use Rattle.rounds.proofs.GivenRounds.{rounds_at}
 use Rattle.verdict.specs.Rules.{rules_of, layouts_of}
-use Rattle.verdict.specs.declared.Verdict.{Verdict}
-use Rattle.verdict.specs.Verdict.{verdict_rounds, VerdictSeen, verdict_seen, is_solvable}
+use Rattle.verdict.specs.Verdict.{VerdictAnswer, verdict_rounds, VerdictSeen, verdict_seen, is_solvable}
 use Rattle.verdict.proofs.KindsOfBoard.{own_passes, rules_sound}
 use Rattle.refusals.proofs.Admitted.{tested_accepted}
 use Rattle.verdict.proofs.DemandThree.{tests_accept}
@@ -45,7 +44,7 @@ module _ (edgeless : Bool) (rows columns row column : ℕ) (b shown opened_in : 
       (omega (arith, accepted.board.whole, few_cells accepted.board.sized)) c)
 
   -- so of an answer that is the definition's
-  pub answer_rounds : (r : Verdict) (after rounds : List ℕ) → verdict_seen r after rounds ≡ is_solvable edgeless rows columns row column b shown opened_in
+  pub answer_rounds : (r : VerdictAnswer) (after rounds : List ℕ) → verdict_seen r after rounds ≡ is_solvable edgeless rows columns row column b shown opened_in
       → (c : ℕ) → c < length b → RoundTells near b (three_rules near) start after (verdict_rounds r) c (get_or rounds c 65535)
   answer_rounds r after rounds e c on =
       let told = e ∙ tests_accept edgeless rows columns row column b shown opened_in tests in

@@ -1,6 +1,6 @@
 -- What a caller may rely on of the verdict of a board that shows its mine total: demand 3 with the layouts of that total, what the grade tells, and what the rounds of
 -- the cells tell; and beside the plain verdict of the same board no less is opened. Rests on DemandThree, Bounds and RoundsTold. Assumes nothing.
-use Rattle.std.specs.Prelude.{Ok}
+use Rattle.std.specs.Prelude.{Err, Ok}
 use mathlib.Core.Path.{◌≡◌, refl, ap, ◌∙◌}
 use mathlib.Core.Logic.{◌≢◌, inl, inr}
 use mathlib.Core.Bool.{true}
@@ -22,8 +22,7 @@ use Rattle.fitting.specs.ForcedCells.{forced_cells}
 use Rattle.enumeration.specs.ThreeRules.{three_rules}
 use Rattle.rounds.proofs.Rounds.{RoundTells, tells_picture}
 use Rattle.verdict.specs.Rules.{four_rules}
-use Rattle.verdict.specs.declared.Verdict.{Verdict}
-use Rattle.verdict.specs.Verdict.{verdict_yes, verdict_opened, verdict_rounds, VerdictSeen, verdict_seen, judged_by, verdict_after_tests, is_solvable, is_solvable_total, MeetsDemand3Total}
+use Rattle.verdict.specs.Verdict.{VerdictAnswer, verdict_yes, verdict_opened, verdict_rounds, VerdictSeen, verdict_seen, judged_by, verdict_after_tests, is_solvable, is_solvable_total, MeetsDemand3Total}
 use Rattle.refusals.proofs.Admitted.{tested_accepted}
 use Rattle.verdict.proofs.DemandThree.{after_acceptance, passes_demand_3, answer_demand_3}
 use Rattle.verdict.proofs.Bounds.{three_grades, GradeTellsUpTo, board_grade_tells, refusal_tells}
@@ -40,7 +39,7 @@ four_grades near b p = go (decided (nothing (three_rules near p)))
     go (inr e) = rw e ((three_grades near p).0, (omega (arith, (three_grades near p).1), λ w. omega (arith, w, (three_grades near p).1)))
 
 -- what the grade of an answer tells: that of the mine total is 5
-abbrev pub TotalGradeTells : Verdict → Type 0
+abbrev pub TotalGradeTells : VerdictAnswer → Type 0
 TotalGradeTells v = GradeTellsUpTo 5 v
 
 module _ (rows columns row column : ℕ) (b shown opened_in : List ℕ) where
@@ -66,14 +65,14 @@ module _ (rows columns row column : ℕ) (b shown opened_in : List ℕ) where
           board_grade_tells 5 ends.yes (opened ends.position) ends.grade ends.rounds
           (grade_of_a_rule near b (four_rules near b) (start_cell columns row column) (λ g. (g ≤ 5) × (g ≢ 4)) (omega arith, λ e. omega (arith, e)) (λ p _. (four_grades near b p).1))
           (grade_zero near b (four_rules near b) (start_cell columns row column) (λ p _. (four_grades near b p).0))
-      go (TestRefused x) = refusal_tells 5 x
+      go (Err x) = refusal_tells 5 x
 
   module _ (accepts : tests ≡ Accepted) where
     pub total_tests_accept : is_solvable_total rows columns row column b shown opened_in ≡ judged_by near b (four_rules near b) (start_cell columns row column)
     unfolding is_solvable_total
     total_tests_accept = after_acceptance _ _ shown opened_in accepts
 
-    module _ (r : Verdict) (after rounds : List ℕ) (is : verdict_seen r after rounds ≡ is_solvable_total rows columns row column b shown opened_in) where
+    module _ (r : VerdictAnswer) (after rounds : List ℕ) (is : verdict_seen r after rounds ≡ is_solvable_total rows columns row column b shown opened_in) where
       told : verdict_seen r after rounds ≡ judged_by near b (four_rules near b) (start_cell columns row column)
       told = is ∙ total_tests_accept
 
@@ -90,7 +89,7 @@ module _ (rows columns row column : ℕ) (b shown opened_in : List ℕ) where
           (tells_picture _ (judged_round flat rows columns row column b shown opened_in accepts true c on))
 
       -- beside the plain verdict of the same board: each cell that it shows open is open with the same number, a yes stays a yes, and no fewer cells are opened
-      pub total_beside_plain : (v : Verdict) (plain plain_rounds : List ℕ) → verdict_seen v plain plain_rounds ≡ is_solvable flat rows columns row column b shown opened_in
+      pub total_beside_plain : (v : VerdictAnswer) (plain plain_rounds : List ℕ) → verdict_seen v plain plain_rounds ≡ is_solvable flat rows columns row column b shown opened_in
           → ((c : ℕ) → shows plain c ≤ 8 → shows after c ≡ shows plain c) × (verdict_yes v ≡ true → verdict_yes r ≡ true) × (verdict_opened v ≤ verdict_opened r)
       total_beside_plain v plain plain_rounds e =
           let accepted = accepted_board flat rows columns row column b _ accepts in

@@ -1,14 +1,15 @@
 -- What a pass finds where the board shows its mine total: the three rules' cells, and where they find nothing those of the total, as the struct has them.
 -- Rests on FoundCells and on the rules tried one after another. Assumes nothing.
-use mathlib.Core.Path.{◌≡◌, refl, ap}
+use Rattle.std.specs.Prelude.{Some}
+use mathlib.Core.Path.{◌≡◌, refl, ap, ◌∙◌}
 use mathlib.Core.Bool.{Bool, true, false, ◌&&◌}
 use mathlib.Core.List.{List}
 use Prim.Native.Nat.{ℕ, ◌≤◌}
 use native.Mathlib.Omega.{arith}
 use lib.Dec.{ltb}
 use lib.ListN.{length}
-use borrow.Author.Tests.{lt-ltb}
-use Rattle.lists.specs.Lists.{range, keep, has}
+use borrow.Author.Tests.{lt-ltb, eqb-true}
+use Rattle.lists.specs.Lists.{range, keep, has, count}
 use Rattle.lists.proofs.Members.{range_in, kept_has}
 use Rattle.lists.proofs.All.{has_all}
 use Rattle.lists.proofs.Collected.{keep_few}
@@ -22,9 +23,10 @@ use Rattle.marks.specs.CellLists.{cell_list, list_in, Below}
 use Rattle.marks.specs.declared.listing.CellList.{CellList}
 use Rattle.marks.proofs.HeldLists.{list_held, cell_list_below}
 use Rattle.direct.specs.declared.answer.Lists.{Lists}
-use Rattle.fitting.specs.Boards.{mine_total}
+use Rattle.fitting.specs.Boards.{mine_total, own}
+use Rattle.fitting.proofs.KnownTotal.{own_of_total}
 use Rattle.verdict.specs.Rules.{rules_of}
-use Rattle.verdict.specs.Findings.{Finds, graded_finding, rules_at}
+use Rattle.verdict.specs.Findings.{Finds, graded_finding, shown_total, rules_at}
 use Rattle.verdict.specs.declared.finding.Finding.{Finding}
 
 -- cells of a position that pass a test, in an array
@@ -53,16 +55,21 @@ module _ (near : ℕ → List ℕ) (p : List ℕ) (total : ℕ) where
   }
 
   -- the three rules find a cell, and that is what the pass finds
-  pub rules_at_three : nothing (three_rules near p) ≡ false → rules_at true total near p ≡ three_rules near p
+  pub rules_at_three : nothing (three_rules near p) ≡ false → rules_at (Some total) near p ≡ three_rules near p
   unfolding or_else
   rules_at_three e = rw e
 
   -- or they find nothing
-  pub rules_at_total : nothing (three_rules near p) ≡ true → rules_at true total near p ≡ forced_cells near (of_total total) 5 p
+  pub rules_at_total : nothing (three_rules near p) ≡ true → rules_at (Some total) near p ≡ forced_cells near (of_total total) 5 p
   unfolding or_else
   rules_at_total e = rw e
 
   -- what is found with the board's own total, where it is shown
-  pub finds_own : (shown : Bool) (b : List ℕ) → (shown ≡ true → total ≡ mine_total b) → {n : ℕ} {r : Finding} → Finds n (rules_at shown total near p) r → Finds n (rules_of shown near b p) r
-  finds_own true b is found = rw (is refl) at found
-  finds_own false b is found = found
+  pub finds_own : (shown : Bool) (b : List ℕ) {n : ℕ} {r : Finding} → Finds n (rules_at (shown_total shown b) near p) r → Finds n (rules_of shown near b p) r
+  finds_own true b found = found
+  finds_own false b found = found
+
+-- which is that of the board's own layout
+pub shown_own : (shown : Bool) (b : List ℕ) (total : ℕ) → shown_total shown b ≡ Some total → count (λ x. x) (own b) ≡ total
+shown_own true b total e = let is : mine_total b ≡ total = cc in eqb-true (count (λ x. x) (own b)) (mine_total b) (own_of_total b) ∙ is
+shown_own false b total e = let z : ◌≡◌ {A = ℕ} 0 1 = cc in absurd (omega arith)

@@ -1,8 +1,8 @@
 // What one pass finds at a position: the direct rule's cells, else those of subtraction, else those of enumeration, and on a board that shows its mine total else
 // those of the total, with the grade of the rule that found them.
-ghost use Rattle.std.specs.Prelude.{◌≡◌, Bool, true, ◌*◌};
+ghost use Rattle.std.specs.Prelude.{◌≡◌, Bool, ℕ, ◌*◌, Some};
 ghost use mathlib.Core.List.{List, Memᴰ};
-ghost use Rattle.grid.specs.Window.{neighbours, Board};
+ghost use Rattle.grid.specs.Window.{neighbours_on, Board};
 ghost use Rattle.lists.specs.Lists.{count};
 ghost use Rattle.fitting.specs.Layouts.{Fits};
 ghost use Rattle.blocks.specs.Blocks.{Block};
@@ -13,44 +13,30 @@ ghost use Rattle.subtraction.specs.Pairs.{minus_lists};
 ghost use Rattle.groups.specs.Grouping.{Combinable};
 ghost use Rattle.enumeration.specs.Enumeration.{enumerated};
 ghost use Rattle.enumeration.specs.ThreeRules.{three_rules};
-ghost use Rattle.verdict.specs.Findings.{Finds, graded_finding, found_cell, later_finding, rules_at};
+ghost use Rattle.verdict.specs.Findings.{Finds, found_cell, later_finding, rules_at};
 
-use blocks::BlockSet;
+use blocks::{BlockSet, NO_CELL};
 use direct::answer::{Lists, lists_of};
 use direct::direct::swept_cells;
 use enumeration::enumerate::enumerate_rule;
 use frontier::read_blocks;
-use marks::listing::CellList;
+use grid::window::Size;
 use sources::equations::read_equations;
 use subtraction::minus_cells;
 use total_rule::find_by_total;
 
-// Two lists of cells, and a grade.
+// The two lists of cells that a rule found, and its grade.
 #[derive(Drop)]
 pub struct Finding {
-    pub safe: CellList,
-    pub mines: CellList,
+    pub lists: Lists,
     pub grade: usize,
-}
-
-// A rule's lists with its grade.
-fn graded(found: Lists, grade: usize) -> Finding
-    ensures { result ≡ graded_finding found grade }
-{
-    let safe = found.safe;
-    let mines = found.mines;
-    Finding { safe, mines, grade }
 }
 
 // Did a rule find a cell?
 fn found_cell(found: &Lists) -> bool
     ensures { result ≡ found_cell found.now }
 {
-    if found.safe.count == 0 {
-        found.mines.count != 0
-    } else {
-        true
-    }
+    found.safe.count != 0 || found.mines.count != 0
 }
 
 // Subtraction on blocks, then enumeration.
@@ -62,47 +48,52 @@ fn find_in_blocks(set: BlockSet) -> Finding
 {
     let minus = minus_cells(set);
     if found_cell(&minus) {
-        return graded(minus, 2);
+        return Finding {
+            lists: minus,
+            grade: 2,
+        };
     }
-    graded(lists_of(enumerate_rule(set)), 3)
+    Finding {
+        lists: lists_of(enumerate_rule(set)),
+        grade: 3,
+    }
 }
 
 // What a pass finds. The direct rule needs the equations alone, and only where it finds nothing are the blocks read. A layout fits, so no rule
 // meets a contradiction, and none is asked for.
-pub fn find_cells(edgeless: bool, rows: usize, columns: usize, position: &[u8]) -> Finding
-    requires board { Board position.now rows columns }
-    requires fits { (m : List Bool) × Fits (neighbours edgeless rows columns) position.now m }
-    ensures { Finds (rows * columns) (three_rules (neighbours edgeless rows columns) position.now) result }
+pub fn find_cells(size: Size, position: &[u8]) -> Finding
+    requires board { Board position.now size.rows size.columns }
+    requires fits { (m : List Bool) × Fits (neighbours_on size) position.now m }
+    ensures { Finds (size.rows * size.columns) (three_rules (neighbours_on size) position.now) result }
 {
-    let mut slots = [65535u16; 8192];
+    let mut slots = [NO_CELL; 8192];
     let mut rests = [0u8; 1024];
-    let len = read_equations(edgeless, rows, columns, position, &mut slots, &mut rests);
+    let len = read_equations(size, position, &mut slots, &mut rests);
     let direct = swept_cells(&slots, &rests, len);
     if found_cell(&direct) {
-        return graded(direct, 1);
+        return Finding {
+            lists: direct,
+            grade: 1,
+        };
     }
-    find_in_blocks(read_blocks(edgeless, rows, columns, position))
+    find_in_blocks(read_blocks(size, position))
 }
 
-// What a pass finds, where the board shows its mine total or not: the total is asked only where the three rules find nothing.
-pub fn find_in_pass(
-    edgeless: bool,
-    rows: usize,
-    columns: usize,
-    position: &[u8],
-    shows_total: bool,
-    total: usize,
-) -> Finding
-    requires board { Board position.now rows columns }
-    requires fits { (m : List Bool) × Fits (neighbours edgeless rows columns) position.now m × (shows_total ≡ true → count (λ x. x) m ≡ total) }
-    ensures { Finds (rows * columns) (rules_at shows_total total (neighbours edgeless rows columns) position.now) result }
+// What a pass finds, on a board that shows its mine total or not: the total is asked only where the three rules find nothing.
+pub fn find_in_pass(size: Size, position: &[u8], total: Option<usize>) -> Finding
+    requires board { Board position.now size.rows size.columns }
+    requires fits { (m : List Bool) × Fits (neighbours_on size) position.now m × ((shown : ℕ) → total ≡ Some shown → count (λ x. x) m ≡ shown) }
+    ensures { Finds (size.rows * size.columns) (rules_at total (neighbours_on size) position.now) result }
 {
-    let found = find_cells(edgeless, rows, columns, position);
-    if !shows_total {
+    let found = find_cells(size, position);
+    let Some(shown) = total else {
+        return found;
+    };
+    if found.lists.safe.count + found.lists.mines.count != 0 {
         return found;
     }
-    if found.safe.count + found.mines.count != 0 {
-        return found;
+    Finding {
+        lists: find_by_total(size, position, shown),
+        grade: 5,
     }
-    graded(find_by_total(edgeless, rows, columns, position, total), 5)
 }

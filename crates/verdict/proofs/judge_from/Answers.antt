@@ -7,4 +7,4 @@ use Rattle.verdict.proofs.judge_from.Goals as goal
 pub returns : goal.returns
 returns c =
     passes_told _ c.requires.board.0 c.args.start c.requires.start_in_bounds.0 _ c.run_passes-end.ensures.value c.run_passes-end.ensures.position_after c.run_passes-end.ensures.opened_in_after
-    c.close_marks-opened.ensures.0 c.close_marks-opened.ensures.1 c.board_grade-grade.ensures
+    c.show_open-opened.ensures.0 c.show_open-opened.ensures.1 c.board_grade-grade.ensures

@@ -3,7 +3,7 @@
 use mathlib.Core.Path.{◌≡◌, refl, sym, ap, ◌∙◌}
 use mathlib.Core.List.{List}
 use borrow.Author.Rules.{rules}
-use Rattle.grid.specs.Window.{neighbours}
+use Rattle.grid.specs.Window.{neighbours_on}
 use Rattle.blocks.specs.Blocks.{Block}
 use Rattle.sources.specs.Equations.{plain_equations}
 use Rattle.frontier.proofs.ReadFrontier.{read_frontier, read_whole}
@@ -24,13 +24,12 @@ swept_cells-direct-requires c = equations_fit _ _ _ _ c.requires.board _ _ _ c.r
 
 -- the sweeps were over the position's equations
 swept : (c : After-swept_cells-direct)
-    → (let a = c.args in c.swept_cells-direct.result ≡ swept_lists (plain_equations (neighbours a.edgeless a.rows a.columns) a.position.now))
+    → (let a = c.args in c.swept_cells-direct.result ≡ swept_lists (plain_equations (neighbours_on a.size) a.position.now))
 swept c = c.swept_cells-direct.ensures ∙ ap swept_lists (equations_read _ _ _ _ c.requires.board _ _ _ c.read_equations-len.ensures)
 
 pub returns-then-found_cell : goal.returns-then-found_cell
 returns-then-found_cell c =
-    rw c.graded.ensures
-    (direct_finds _ _ _ _ c.requires.board c.requires.fits.0 c.requires.fits.1 _ (swept (goal.at.returns-then-found_cell c).After-swept_cells-direct) (sym c.found_cell.ensures ∙ c.if-found_cell.true))
+    direct_finds _ _ _ _ c.requires.board c.requires.fits.0 c.requires.fits.1 _ (swept (goal.at.returns-then-found_cell c).After-swept_cells-direct) (sym c.found_cell.ensures ∙ c.if-found_cell.true)
 
 pub read_blocks-requires : goal.read_blocks-requires
 read_blocks-requires c = c.requires.board

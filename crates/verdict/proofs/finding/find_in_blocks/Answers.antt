@@ -7,13 +7,12 @@ use Rattle.verdict.proofs.ThreeFindings.{takes_second, takes_third}
 use Rattle.verdict.proofs.finding.find_in_blocks.Goals as goal
 
 pub returns-then-found_cell : goal.returns-then-found_cell
-returns-then-found_cell c = c.graded.ensures ∙ takes_second _ _ _ c.minus_cells-minus.ensures (sym c.found_cell.ensures ∙ c.if-found_cell.true)
+returns-then-found_cell c = takes_second _ _ _ c.minus_cells-minus.ensures (sym c.found_cell.ensures ∙ c.if-found_cell.true)
 
 pub enumerate_rule-requires : goal.enumerate_rule-requires
 enumerate_rule-requires c = record { whole = c.requires.whole; combinable = c.requires.combinable }
 
 pub returns : goal.returns
 returns c =
-    c.graded-2.ensures
-    ∙ takes_third _ _ _ c.minus_cells-minus.ensures (sym c.found_cell.ensures ∙ c.if-found_cell.false) _
+    takes_third _ _ _ c.minus_cells-minus.ensures (sym c.found_cell.ensures ∙ c.if-found_cell.false) _
     (c.lists_of.ensures ∙ ap lists_in c.enumerate_rule.ensures.value)

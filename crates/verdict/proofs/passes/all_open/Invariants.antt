@@ -1,12 +1,9 @@
 use mathlib.Core.Path.{◌≡◌}
-use mathlib.Core.Logic.{⊎_elim}
 use mathlib.Core.Bool.{true}
-use Prim.Native.Nat.{◌-◌, ◌≤◌}
-use borrow.Author.Rules.{rules}
+use Prim.Native.Nat.{◌≤◌}
 use lib.ListN.{length}
 use Rattle.lists.specs.Lists.{every}
-use Rattle.lists.proofs.Tests.{every_more}
-use Rattle.verdict.proofs.CellByCell.{mine_or_open, mine_passes, open_passes, shut_fails, all_passed}
+use Rattle.verdict.proofs.CellByCell.{mine_or_open}
 use Rattle.verdict.proofs.passes.all_open.Given as goal
 
 abbrev pub invariant-loop-i : goal.invariant-loop-i
