@@ -4,23 +4,22 @@
 use Rattle.std.specs.Prelude.{cond, List, [], ◌∷◌, ◌++◌, ℕ, eqb, take, replicate}
 use Rattle.records.specs.declared.BoardMark.{BoardMark}
 use Rattle.records.specs.declared.Head.{Head}
-use Rattle.verdict.specs.declared.Verdict.{Verdict}
-use Rattle.verdict.specs.Verdict.{verdict_number, VerdictSeen}
+use Rattle.verdict.specs.Verdict.{VerdictAnswer, verdict_number, VerdictSeen}
 use Rattle.show.specs.Cells.{cells_text}
 use Rattle.lines.specs.declared.StartLine.{StartLine}
 use Rattle.lines.specs.Lines.{start_line_of, answer_text}
 use Rattle.record_lines.specs.Answers.{verdict_text, verdict_by_mark}
 
 -- a word and the numbers of a slice behind a verdict, and nothing behind a refusal
-abbrev pub slice_text : List ℕ → Verdict → List ℕ → List ℕ
+abbrev pub slice_text : List ℕ → VerdictAnswer → List ℕ → List ℕ
 slice_text word v numbers = cond (eqb (verdict_number v) 0) (word ++ cells_text numbers) []
 
 -- ` picture 1 10`
-abbrev pub picture_text : Verdict → List ℕ → List ℕ
+abbrev pub picture_text : VerdictAnswer → List ℕ → List ℕ
 picture_text = slice_text (32 ∷ 112 ∷ 105 ∷ 99 ∷ 116 ∷ 117 ∷ 114 ∷ 101 ∷ [])
 
 -- ` rounds 0 65535`
-abbrev pub rounds_text : Verdict → List ℕ → List ℕ
+abbrev pub rounds_text : VerdictAnswer → List ℕ → List ℕ
 rounds_text = slice_text (32 ∷ 114 ∷ 111 ∷ 117 ∷ 110 ∷ 100 ∷ 115 ∷ [])
 
 -- what the caller sees, as text

@@ -8,17 +8,23 @@ ghost use Rattle.board_lines.specs.Verdicts.{picture_text, rounds_text, verdict_
 use lines::{put_unreadable, read_start_line};
 use record_lines::{put_verdict, verdict_by_mark};
 use records::{BoardMark, Head};
+use refusals::Refusal;
 use show::{put_cells, put_rounds};
 use text::Text;
 use verdict::Verdict;
 
 // ` picture 1 10 rounds 0 65535`; nothing behind a refusal.
-fn put_slices(out: &mut Text<'_>, verdict: Verdict, picture: &[u8], opened_in: &[u16])
+fn put_slices(
+    out: &mut Text<'_>,
+    verdict: Result<Verdict, Refusal>,
+    picture: &[u8],
+    opened_in: &[u16],
+)
     ensures { Wrote out.old out.new (picture_text verdict picture.now ++ rounds_text verdict opened_in.now) }
 {
     match verdict {
-        Verdict::Refused(_) => {}
-        Verdict::Judged(_, _, _, _) => {
+        Err(_) => {}
+        Ok(_) => {
             out.bytes(b" picture");
             put_cells(out, picture);
             out.bytes(b" rounds");
@@ -28,7 +34,12 @@ fn put_slices(out: &mut Text<'_>, verdict: Verdict, picture: &[u8], opened_in: &
 }
 
 // What the caller of the verdict sees.
-fn put_judged(out: &mut Text<'_>, verdict: Verdict, picture: &[u8], opened_in: &[u16])
+fn put_judged(
+    out: &mut Text<'_>,
+    verdict: Result<Verdict, Refusal>,
+    picture: &[u8],
+    opened_in: &[u16],
+)
     ensures { Wrote out.old out.new (verdict_seen_text (verdict_seen verdict picture.now opened_in.now)) }
 {
     put_verdict(out, verdict);

@@ -12,7 +12,7 @@ use Rattle.direct.specs.Found.{Found}
 use Rattle.direct.specs.Direct.{direct}
 use Rattle.subtraction.specs.Minus.{subtraction}
 use Rattle.enumeration.specs.Enumeration.{enumerated}
-use Rattle.deductions.specs.Answers.{Seen, deduction}
+use Rattle.deductions.specs.Answers.{Seen, safe_count, mine_count, deduction}
 use Rattle.tables.specs.Tables.{table_number, table_values, TableSeen, cal_all_solution}
 use Rattle.verdict.specs.Verdict.{verdict_number, verdict_values, VerdictSeen, is_solvable, is_solvable_total}
 use Rattle.patterns.specs.Answer.{unsolvable_structure, pattern_number, pattern_values}
@@ -113,15 +113,15 @@ holds (frontier_read rows columns p bs inside known) =
     same_by same_block (frontier (neighbours flat rows columns) p) bs
     && (eqb (inside_cells (neighbours flat rows columns) p) inside && eqb (known_mines p) known)
 holds (deduced rule rows columns p safe mines after left) =
-    (eqb (tested_number (called rule rows columns p).answer.tested) 0 && same (called rule rows columns p).position after)
-    && (list_holds (called rule rows columns p).safe (called rule rows columns p).answer.safe safe
-    && (list_holds (called rule rows columns p).mines (called rule rows columns p).answer.mines mines
+    (eqb (tested_number (called rule rows columns p).answer) 0 && same (called rule rows columns p).position after)
+    && (list_holds (called rule rows columns p).safe (safe_count (called rule rows columns p).answer) safe
+    && (list_holds (called rule rows columns p).mines (mine_count (called rule rows columns p).answer) mines
     && same_by same_block (rule (frontier (neighbours flat rows columns) p)).left left))
 holds (contradictory rule rows columns p) =
-    eqb (tested_number (called rule rows columns p).answer.tested) 6
+    eqb (tested_number (called rule rows columns p).answer) 6
     && (same (called rule rows columns p).position p
-    && (list_holds (called rule rows columns p).safe (called rule rows columns p).answer.safe []
-    && list_holds (called rule rows columns p).mines (called rule rows columns p).answer.mines []))
+    && (list_holds (called rule rows columns p).safe (safe_count (called rule rows columns p).answer) []
+    && list_holds (called rule rows columns p).mines (mine_count (called rule rows columns p).answer) []))
 holds (tabulated rows columns p block lent n values after) = same_table (cal_all_solution flat rows columns p block lent) n values after
 holds (judged rows columns row column b answer n grade rounds after opened_in) =
     same_verdict (is_solvable flat rows columns row column b (replicate (length b) 0) (replicate (length b) 0)) 0 (bit answer ∷ n ∷ grade ∷ rounds ∷ []) after opened_in

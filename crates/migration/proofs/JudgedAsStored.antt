@@ -24,8 +24,7 @@ use Rattle.refusals.proofs.RefusalNumbers.{refusal_numbered}
 use Rattle.refusals.proofs.Starts.{past_start_off, mine_start_fails, safe_start_passes}
 use Rattle.records.specs.declared.BoardMark.TheVariants.{Plain}
 use Rattle.records.specs.Records.{head_of, cells_in}
-use Rattle.verdict.specs.declared.Verdict.{Verdict}
-use Rattle.verdict.specs.Verdict.{verdict_number, VerdictSeen, verdict_after_tests, judged_from, is_solvable}
+use Rattle.verdict.specs.Verdict.{VerdictAnswer, verdict_number, VerdictSeen, verdict_after_tests, judged_from, is_solvable}
 use Rattle.record_lines.specs.Answers.{picture_size, board_verdict}
 use Rattle.migration.specs.Migrated.{is_open, has_zero, first_zero, is_changed, migrated_record}
 use Rattle.migration.specs.Stored.{stored_start, stored_number}
@@ -94,7 +93,7 @@ module _ (rows columns row column : ℕ) (b : List ℕ) where
   judged_here = judged_from (neighbours flat rows columns) b (start_cell columns row column)
 
   -- what is answered after tests
-  abbrev after : Tested → Verdict
+  abbrev after : Tested → VerdictAnswer
   after t = (verdict_after_tests t judged_here zeros zeros).answer
 
   -- what tests 1 to 5 answer, and then 13
@@ -132,7 +131,7 @@ module _ (rows columns row column : ℕ) (b : List ℕ) where
 -- ---- a record
 
 -- what it is judged by, and what it was
-abbrev pub verdict_of : List ℕ → Verdict
+abbrev pub verdict_of : List ℕ → VerdictAnswer
 verdict_of r = board_verdict (head_of Plain r) (cells_in r)
 
 abbrev pub number_stored : List ℕ → ℕ
@@ -142,11 +141,11 @@ number_stored r = stored_number (get_or r 2 0) (get_or r 3 0) (get_or r 4 0) (ge
 abbrev pub cell_stored : List ℕ → ℕ
 cell_stored r = stored_start (get_or r 3 0) (get_or r 4 0) (get_or r 5 0) (cells_in r)
 
-abbrev pub verdict_from_stored : List ℕ → Verdict
+abbrev pub verdict_from_stored : List ℕ → VerdictAnswer
 verdict_from_stored r = (judged_from (neighbours flat (get_or r 2 0) (get_or r 3 0)) (cells_in r) (cell_stored r)).answer
 
 -- the verdict v is what becomes of the one that a record had
-pub record JudgedAs (r : List ℕ) (v : Verdict) : Type 0 where
+pub record JudgedAs (r : List ℕ) (v : VerdictAnswer) : Type 0 where
   -- a refusal keeps its number
   pub refused : number_stored r ≢ 0 → verdict_number v ≡ number_stored r
   -- a verdict from a safe cell stays

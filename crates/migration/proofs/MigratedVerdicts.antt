@@ -12,8 +12,7 @@ use Rattle.lists.proofs.Tests.{and_left, and_right}
 use Rattle.records.specs.declared.BoardMark.TheVariants.{Plain}
 use Rattle.records.specs.Records.{record_length, cells_in}
 use Rattle.records.proofs.RecordKinds.{mark_of}
-use Rattle.verdict.specs.declared.Verdict.{Verdict}
-use Rattle.verdict.specs.Verdict.{verdict_number}
+use Rattle.verdict.specs.Verdict.{VerdictAnswer, verdict_number}
 use Rattle.run.specs.Run.{verdicts}
 use Rattle.run.proofs.OwnBytes.{own_bytes}
 use Rattle.migration.specs.Migrated.{is_stored, is_open, has_zero, migrated_record, migrated}
@@ -26,7 +25,7 @@ use Rattle.migration.proofs.JudgedAsStored.{verdict_of, JudgedAs, judged_as_stor
 -- ---- a record
 
 -- the verdict v is what becomes of the verdict of a stored record
-pub record JudgedAfter (r : List ℕ) (v : Verdict) : Type 0 where
+pub record JudgedAfter (r : List ℕ) (v : VerdictAnswer) : Type 0 where
   -- with a printed start, or with a 0, it is what becomes of the verdict that it had
   pub as_stored : (is_open (get_or r 4 0) (get_or r 5 0) ≡ false) ⊎ (has_zero (cells_in r) ≡ true) → JudgedAs r v
   -- with the retired start and no 0 it is a refusal, by 4 at the latest
@@ -38,11 +37,11 @@ judged_after r = record { as_stored = judged_as_stored r; refused = retired_refu
 -- ---- the whole input
 
 -- the verdicts l are what becomes of those of a stored input
-pub data JudgedInTurn : List ℕ → List Verdict → Type 0 where
+pub data JudgedInTurn : List ℕ → List VerdictAnswer → Type 0 where
   -- no whole record stands at the front: what follows is copied, and answered as it is
   copied : (input : List ℕ) → is_stored input ≡ false → JudgedInTurn input (verdicts input)
   -- a record, and what follows it
-  next : (input : List ℕ) (v : Verdict) (l : List Verdict) → is_stored input ≡ true → JudgedAfter (take (record_length input) input) v → JudgedInTurn (behind input) l → JudgedInTurn input (v ∷ l)
+  next : (input : List ℕ) (v : VerdictAnswer) (l : List VerdictAnswer) → is_stored input ≡ true → JudgedAfter (take (record_length input) input) v → JudgedInTurn (behind input) l → JudgedInTurn input (v ∷ l)
 
 -- the mark of a stored record is that of a plain board
 stored_plain : (input : List ℕ) → is_stored input ≡ true → mark_of input ≡ Some Plain

@@ -5,12 +5,11 @@ use mathlib.Core.List.{List}
 use lib.ListN.{take, replicate}
 use Rattle.lists.proofs.Arrays.{take_replicate}
 use Rattle.records.specs.declared.Head.{Head}
-use Rattle.verdict.specs.declared.Verdict.{Verdict}
-use Rattle.verdict.specs.Verdict.{VerdictSeen, verdict_seen}
+use Rattle.verdict.specs.Verdict.{VerdictAnswer, VerdictSeen, verdict_seen}
 use Rattle.record_lines.specs.Answers.{picture_size, verdict_by_mark, board_verdict}
 
 -- so the call's answer is the record's verdict
-pub verdict_of_zeros : {shown opened_in : List ℕ} {v : Verdict} (h : Head) (cells : List ℕ) (size : ℕ) (picture rounds : List ℕ)
+pub verdict_of_zeros : {shown opened_in : List ℕ} {v : VerdictAnswer} (h : Head) (cells : List ℕ) (size : ℕ) (picture rounds : List ℕ)
     → size ≡ picture_size h.rows h.columns → size ≤ 1024 → picture ≡ replicate 1024 0 → rounds ≡ replicate 1024 0
     → verdict_seen v shown opened_in ≡ verdict_by_mark h cells (take size picture) (take size rounds) → v ≡ board_verdict h cells
 unfolding board_verdict

@@ -1,5 +1,6 @@
 -- How long a line is: a number has at most twenty digits, so that no line has more than 88 bytes; and a text that fits its buffer stands there whole. So a program that lends 88 bytes
 -- or more has the line that the definition gives, and not a part of it. Assumes nothing.
+use Rattle.std.specs.Prelude.{Ok, Err}
 use Prim.Native.Nat.{ℕ, zero, suc, ◌+◌, ◌%◌, ◌/◌, ◌≤◌}
 use mathlib.Core.Path.{◌≡◌}
 use mathlib.Core.Bool.{Bool, true, false, cond}
@@ -10,9 +11,7 @@ use lib.ListN.{length, take, length-append}
 use Rattle.refusals.specs.Refusals.{refusal_number}
 use Rattle.refusals.proofs.FirstFailure.{refusal_not_zero}
 use Rattle.lists.proofs.Stores.{slice_stored}
-use Rattle.verdict.specs.declared.Verdict.{Verdict}
-use Rattle.verdict.specs.declared.Verdict.TheVariants.{Refused, Judged}
-use Rattle.verdict.specs.Verdict.{verdict_yes}
+use Rattle.verdict.specs.Verdict.{VerdictAnswer, verdict_yes}
 use Rattle.text.specs.Text.{decimal_up_to, decimal, Written}
 use Rattle.record_lines.specs.Answers.{verdict_word, verdict_text, line_text}
 
@@ -34,13 +33,13 @@ word_few : (solvable : Bool) → length (verdict_word solvable) ≤ 4
 word_few true = omega arith
 word_few false = omega arith
 
-verdict_few : (v : Verdict) → length (verdict_text v) ≤ 66
+verdict_few : (v : VerdictAnswer) → length (verdict_text v) ≤ 66
 unfolding verdict_text
-verdict_few (Refused r) = rw (refusal_not_zero r) (simp length-append (omega (arith, decimal_few (refusal_number r))))
-verdict_few (Judged solvable opened grade rounds) =
-    simp length-append (omega (arith, word_few (verdict_yes (Judged solvable opened grade rounds)), decimal_few opened, decimal_few grade, decimal_few rounds))
+verdict_few (Err r) = rw (refusal_not_zero r) (simp length-append (omega (arith, decimal_few (refusal_number r))))
+verdict_few (Ok v) =
+    simp length-append (omega (arith, word_few (verdict_yes (Ok v)), decimal_few v.opened, decimal_few v.grade, decimal_few v.rounds))
 
-pub line_few : (number : ℕ) (v : Verdict) → length (line_text number v) ≤ 88
+pub line_few : (number : ℕ) (v : VerdictAnswer) → length (line_text number v) ≤ 88
 unfolding line_text
 line_few number v = simp length-append (omega (arith, decimal_few number, verdict_few v))
 

@@ -5,8 +5,7 @@ use Rattle.grid.specs.Window.{flat}
 use Rattle.records.specs.declared.BoardMark.{BoardMark}
 use Rattle.records.specs.declared.BoardMark.TheVariants.{Plain, Total}
 use Rattle.records.specs.declared.Head.{Head}
-use Rattle.verdict.specs.declared.Verdict.{Verdict}
-use Rattle.verdict.specs.Verdict.{verdict_number, verdict_yes, verdict_opened, verdict_grade, verdict_rounds, VerdictSeen, is_solvable, is_solvable_total}
+use Rattle.verdict.specs.Verdict.{VerdictAnswer, verdict_number, verdict_yes, verdict_opened, verdict_grade, verdict_rounds, VerdictSeen, is_solvable, is_solvable_total}
 use Rattle.text.specs.Text.{decimal}
 
 -- `yes ` and `no `
@@ -14,14 +13,14 @@ abbrev pub verdict_word : Bool → List ℕ
 verdict_word v = cond v (121 ∷ 101 ∷ 115 ∷ 32 ∷ []) (110 ∷ 111 ∷ 32 ∷ [])
 
 -- `yes 2 0 0` or `refused 1`
-unfoldable pub verdict_text : Verdict → List ℕ
+unfoldable pub verdict_text : VerdictAnswer → List ℕ
 verdict_text v =
     cond (eqb (verdict_number v) 0)
     (verdict_word (verdict_yes v) ++ (decimal (verdict_opened v) ++ (32 ∷ (decimal (verdict_grade v) ++ (32 ∷ decimal (verdict_rounds v))))))
     ((114 ∷ 101 ∷ 102 ∷ 117 ∷ 115 ∷ 101 ∷ 100 ∷ 32 ∷ []) ++ decimal (verdict_number v))
 
 -- `1 yes 2 0 0` and the end of the line
-unfoldable pub line_text : ℕ → Verdict → List ℕ
+unfoldable pub line_text : ℕ → VerdictAnswer → List ℕ
 line_text number v = decimal number ++ (32 ∷ (verdict_text v ++ (10 ∷ [])))
 
 -- how many cells of picture, and of rounds, a board is lent: all that it has, and none for a board that test 1 refuses
@@ -38,5 +37,5 @@ abbrev pub verdict_by_mark : Head → List ℕ → List ℕ → List ℕ → Ver
 verdict_by_mark h cells shown opened_in = judged_by h.mark h cells shown opened_in
 
 -- the verdict of a record's board, which is lent zeros for the picture and for the rounds of its cells
-unfoldable pub board_verdict : Head → List ℕ → Verdict
+unfoldable pub board_verdict : Head → List ℕ → VerdictAnswer
 board_verdict h cells = (verdict_by_mark h cells (replicate (picture_size h.rows h.columns) 0) (replicate (picture_size h.rows h.columns) 0)).answer

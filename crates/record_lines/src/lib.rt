@@ -7,8 +7,9 @@ ghost use Rattle.text.specs.Text.{Wrote};
 ghost use Rattle.verdict.specs.Verdict.{verdict_seen};
 ghost use Rattle.record_lines.specs.Answers.{verdict_word, verdict_text, line_text, picture_size, verdict_by_mark, board_verdict};
 
-use grid::window::FLAT;
+use grid::window::Size;
 use records::{BoardMark, Head};
+use refusals::Refusal;
 use show::put_refused;
 use text::Text;
 use verdict::{Verdict, is_solvable, is_solvable_total};
@@ -24,24 +25,24 @@ fn put_word(out: &mut Text<'_>, yes: bool)
 }
 
 // `yes 2 0 0` or `refused 1`
-pub fn put_verdict(out: &mut Text<'_>, verdict: Verdict)
+pub fn put_verdict(out: &mut Text<'_>, verdict: Result<Verdict, Refusal>)
     ensures { Wrote out.old out.new (verdict_text verdict) }
 {
     match verdict {
-        Verdict::Refused(refusal) => put_refused(out, refusal),
-        Verdict::Judged(yes, opened, grade, rounds) => {
-            put_word(out, yes);
-            out.number(opened);
+        Err(refusal) => put_refused(out, refusal),
+        Ok(judged) => {
+            put_word(out, judged.yes);
+            out.number(judged.opened);
             out.byte(b' ');
-            out.number(grade);
+            out.number(judged.grade);
             out.byte(b' ');
-            out.number(rounds);
+            out.number(judged.rounds);
         }
     }
 }
 
 // The line of a record: its number, the verdict, the end of the line.
-pub fn put_line(out: &mut Text<'_>, number: usize, verdict: Verdict)
+pub fn put_line(out: &mut Text<'_>, number: usize, verdict: Result<Verdict, Refusal>)
     ensures { Wrote out.old out.new (line_text number verdict) }
 {
     out.number(number);
@@ -69,15 +70,13 @@ pub fn verdict_by_mark(
     cells: &[u8],
     picture: &mut [u8],
     opened_in: &mut [u16],
-) -> Verdict
+) -> Result<Verdict, Refusal>
     ensures { verdict_seen result picture.new opened_in.new
         ≡ verdict_by_mark head cells.now picture.old opened_in.old }
 {
     match head.mark {
         BoardMark::Plain => is_solvable(
-            FLAT,
-            head.rows,
-            head.columns,
+            Size::flat(head.rows, head.columns),
             head.row,
             head.column,
             cells,
@@ -97,7 +96,7 @@ pub fn verdict_by_mark(
 }
 
 // The verdict of a record's board. Picture and rounds are lent for the time of the call.
-pub fn board_verdict(head: Head, cells: &[u8]) -> Verdict
+pub fn board_verdict(head: Head, cells: &[u8]) -> Result<Verdict, Refusal>
     ensures { result ≡ board_verdict head cells.now }
 {
     let size = picture_size(head.rows, head.columns);

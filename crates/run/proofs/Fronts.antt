@@ -1,5 +1,6 @@
 -- What stands at the front of a part of the input, read back from what `next_verdict` tells: where it waits, more bytes must come, and fewer than a whole record are there; where the input
 -- has ended, nothing is left; a damaged record is the last whatever follows; a board is that of a whole record. Assumes nothing.
+use Rattle.verdict.specs.Verdict.{VerdictAnswer}
 use mathlib.Core.Path.{◌≡◌, refl, ap}
 use mathlib.Core.Logic.{inl, inr}
 use mathlib.Core.Bool.{Bool, true, false}
@@ -10,8 +11,6 @@ use lib.ListN.{length, get_or, take, drop}
 use Rattle.std.specs.Prelude.{Option, None, Some, Result, Ok, Err}
 use Rattle.refusals.specs.declared.Refusal.{Refusal}
 use Rattle.refusals.specs.declared.Refusal.TheVariants.{Mark}
-use Rattle.verdict.specs.declared.Verdict.{Verdict}
-use Rattle.verdict.specs.declared.Verdict.TheVariants.{Refused}
 use Rattle.records.specs.declared.Head.{Head}
 use Rattle.records.specs.Records.{record_length, record_of, cells_in}
 use Rattle.record_lines.specs.Answers.{board_verdict}
@@ -34,7 +33,7 @@ module _ (input : List ℕ) (ended : Bool) where
   unfolding next_of
   next_damage refusal is e = rw is e
 
-  pub next_whole : {v : Verdict} (head : Head) (end : ℕ) → record_of input ≡ Ok (Some head) → end ≡ record_length input
+  pub next_whole : {v : VerdictAnswer} (head : Head) (end : ℕ) → record_of input ≡ Ok (Some head) → end ≡ record_length input
       → v ≡ board_verdict head (take (end - 6) (drop 6 input)) → Board v end ≡ next_of ended input
   unfolding next_of
   next_whole head end is e judged = rw (is, judged, e)
@@ -43,7 +42,7 @@ module _ (input : List ℕ) (ended : Bool) where
 
 module _ (input : List ℕ) where
   -- a board is that of a whole record
-  pub record JudgedBoard (v : Verdict) (size : ℕ) : Type 0 where
+  pub record JudgedBoard (v : VerdictAnswer) (size : ℕ) : Type 0 where
     pub head : Head
     pub is : record_of input ≡ Ok (Some head)
     pub judged : v ≡ board_verdict head (cells_in input)
@@ -53,7 +52,7 @@ module _ (input : List ℕ) where
   abbrev Told : Bool → Next → Type 0
   Told ended Waits = (ended ≡ false) × (length input < record_length input)
   Told ended Ended = (ended ≡ true) × (record_of input ≡ Ok None)
-  Told ended (Damage refusal) = (record_of input ≡ Err refusal) × ((rest : List ℕ) → Follows ended rest → verdicts (input ++ rest) ≡ Refused refusal ∷ [])
+  Told ended (Damage refusal) = (record_of input ≡ Err refusal) × ((rest : List ℕ) → Follows ended rest → verdicts (input ++ rest) ≡ Err refusal ∷ [])
   Told ended (Board v size) = JudgedBoard v size
 
   told : (ended : Bool) → Told ended (next_of ended input)
@@ -80,8 +79,8 @@ module _ (input : List ℕ) where
   ended_nothing ended e = rw e at (told ended)
 
   pub damage_last : (ended : Bool) (refusal : Refusal) → next_of ended input ≡ Damage refusal
-      → (record_of input ≡ Err refusal) × ((rest : List ℕ) → Follows ended rest → verdicts (input ++ rest) ≡ Refused refusal ∷ [])
+      → (record_of input ≡ Err refusal) × ((rest : List ℕ) → Follows ended rest → verdicts (input ++ rest) ≡ Err refusal ∷ [])
   damage_last ended refusal e = rw e at (told ended)
 
-  pub board_judged : (ended : Bool) (v : Verdict) (size : ℕ) → next_of ended input ≡ Board v size → JudgedBoard v size
+  pub board_judged : (ended : Bool) (v : VerdictAnswer) (size : ℕ) → next_of ended input ≡ Board v size → JudgedBoard v size
   board_judged ended v size e = rw e at (told ended)

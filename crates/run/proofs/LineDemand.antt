@@ -10,8 +10,7 @@ use Rattle.refusals.specs.Tests.{board_tested, start_cell}
 use Rattle.records.specs.declared.BoardMark.{BoardMark}
 use Rattle.records.specs.declared.BoardMark.TheVariants.{Plain, Total}
 use Rattle.records.specs.declared.Head.{Head}
-use Rattle.verdict.specs.declared.Verdict.{Verdict}
-use Rattle.verdict.specs.Verdict.{is_solvable, MeetsDemand3, is_solvable_total, MeetsDemand3Total}
+use Rattle.verdict.specs.Verdict.{VerdictAnswer, is_solvable, MeetsDemand3, is_solvable_total, MeetsDemand3Total}
 use Rattle.verdict.proofs.DemandThree.{answer_demand_3}
 use Rattle.verdict.proofs.Bounds.{GradeTells, grade_tells}
 use Rattle.verdict.proofs.TotalAnswers.{TotalGradeTells, total_grade_tells, total_answer_demand_3}
@@ -19,7 +18,7 @@ use Rattle.record_lines.specs.Answers.{picture_size, board_verdict}
 use Rattle.refusals.specs.Refusals.{Accepted}
 
 -- what the grade in a line tells: that of a yes is at most 3, and where the mine total is known at most 5
-abbrev pub LineGrade : BoardMark → Verdict → Type 0
+abbrev pub LineGrade : BoardMark → VerdictAnswer → Type 0
 LineGrade Plain v = GradeTells v
 LineGrade Total v = TotalGradeTells v
 

@@ -1,5 +1,6 @@
 -- What a step that answers one line comes to: nothing is done, the header is written, the input has ended, a damaged record is the last, or a whole record is judged. Each way is a
 -- law: the step's part answers the input, and it is a `Step`. Rests on the laws of verdicts and of texts. Assumes nothing.
+use Rattle.verdict.specs.Verdict.{VerdictAnswer}
 use mathlib.Core.Path.{◌≡◌, refl, sym, ap, ◌∙◌}
 use mathlib.Core.Bool.{Bool, true, false}
 use mathlib.Core.List.{List, [], ◌∷◌, ◌++◌, append-nil}
@@ -8,8 +9,6 @@ use native.Mathlib.Omega.{arith}
 use lib.ListN.{length, drop}
 use Rattle.std.specs.Prelude.{None, Some, Ok, Err}
 use Rattle.refusals.specs.declared.Refusal.{Refusal}
-use Rattle.verdict.specs.declared.Verdict.{Verdict}
-use Rattle.verdict.specs.declared.Verdict.TheVariants.{Refused}
 use Rattle.records.specs.declared.Head.{Head}
 use Rattle.records.specs.Records.{record_length, record_of, cells_in}
 use Rattle.record_lines.specs.Answers.{board_verdict, line_text}
@@ -38,7 +37,7 @@ module _ {before after : List ℕ} {len : ℕ} (room : 88 ≤ length before) whe
       let e : len ≡ 34 = omega (arith, w.next) in
       record { is = rw e refl; within = written_within w; stands = written_whole w (omega arith) }
 
-  pub line_at_front : {counted : Tally} (number : ℕ) (v : Verdict) (size : ℕ) (state : RunState) → Written before 0 (line_text number v) after len → counted ≡ tally_of v
+  pub line_at_front : {counted : Tally} (number : ℕ) (v : VerdictAnswer) (size : ℕ) (state : RunState) → Written before 0 (line_text number v) after len → counted ≡ tally_of v
       → AtFront (line_text number v) (line_part number v size state) (record { read = size; len = len; next = number + 1; tally = counted; state = state }) after
   line_at_front number v size state w one =
       let e : len ≡ length (line_text number v) = omega (arith, w.next, line_few number v) in
@@ -84,15 +83,15 @@ module _ (input : List ℕ) (ended : Bool) (number : ℕ) (r : Part) (out : List
 
   -- a damaged record is the last, whatever follows
   pub last_answers : 0 < number → (refusal : Refusal) → record_of input ≡ Err refusal
-      → ((rest : List ℕ) → Follows ended rest → verdicts (input ++ rest) ≡ Refused refusal ∷ [])
-      → AtFront (line_text number (Refused refusal)) (line_part number (Refused refusal) 0 (Stopped refusal)) r out → Answers input ended number r out
+      → ((rest : List ℕ) → Follows ended rest → verdicts (input ++ rest) ≡ Err refusal ∷ [])
+      → AtFront (line_text number (Err refusal)) (line_part number (Err refusal) 0 (Stopped refusal)) r out → Answers input ended number r out
   last_answers h refusal is last a = rw a.is (record {
     read_within = omega arith;
     written_within = rw a.is at a.within;
     text = λ rest f.
         rw (last rest f)
-        (text_line number (Refused refusal) [] h
-        ∙ ap (line_text number (Refused refusal) ++◌) (text_none (number + 1) (omega arith))
+        (text_line number (Err refusal) [] h
+        ∙ ap (line_text number (Err refusal) ++◌) (text_none (number + 1) (omega arith))
         ∙ ap (◌++ []) (sym (rw a.is at a.stands)));
     counted = λ rest f. rw (last rest f) refl;
     complete = λ is. absurd (cc);
@@ -101,7 +100,7 @@ module _ (input : List ℕ) (ended : Bool) (number : ℕ) (r : Part) (out : List
 
   -- a whole record
   pub next_answers : 0 < number → (head : Head) → record_of input ≡ Ok (Some head)
-      → (v : Verdict) → v ≡ board_verdict head (cells_in input)
+      → (v : VerdictAnswer) → v ≡ board_verdict head (cells_in input)
       → AtFront (line_text number v) (line_part number v (record_length input) GoesOn) r out → Answers input ended number r out
   next_answers h head is v judged a = rw a.is (record {
     read_within = whole_inside input head is;
@@ -157,7 +156,7 @@ module _ (input : List ℕ) (ended : Bool) (number : ℕ) (r : Part) (before aft
       )
 
   -- a verdict's line has a byte or more, and at most 88
-  few_line : (v : Verdict) (size : ℕ) (state : RunState) → Few (line_part number v size state)
+  few_line : (v : VerdictAnswer) (size : ℕ) (state : RunState) → Few (line_part number v size state)
   few_line v size state =
       let one = tally_one v in
       record {
@@ -167,19 +166,19 @@ module _ (input : List ℕ) (ended : Bool) (number : ℕ) (r : Part) (before aft
       }
 
   pub last_done : 0 < number → (refusal : Refusal) → next_of ended input ≡ Damage refusal
-      → AtFront (line_text number (Refused refusal)) (line_part number (Refused refusal) 0 (Stopped refusal)) r after → Done
+      → AtFront (line_text number (Err refusal)) (line_part number (Err refusal) 0 (Stopped refusal)) r after → Done
   last_done h refusal next a =
       let known = damage_last input ended refusal next in (
         last_answers input ended number r after h refusal known.0 known.1 a,
         rw a.is (record {
-          few = few_line (Refused refusal) 0 (Stopped refusal);
+          few = few_line (Err refusal) 0 (Stopped refusal);
           lines_short = λ on. absurd (cc);
           numbers_near = λ on. absurd (cc);
           waits = λ _ _ on _. absurd (cc);
         }),
       )
 
-  pub next_done : 0 < number → (v : Verdict) (size : ℕ) → next_of ended input ≡ Board v size
+  pub next_done : 0 < number → (v : VerdictAnswer) (size : ℕ) → next_of ended input ≡ Board v size
       → AtFront (line_text number v) (line_part number v size GoesOn) r after → Done
   next_done h v size next a =
       let known = board_judged input ended v size next in

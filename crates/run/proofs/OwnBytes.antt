@@ -1,5 +1,6 @@
 -- No trace in the next: the line of a whole record depends on its own bytes and its number, whatever stands before and behind it, and the next record begins where its size says.
 -- Assumes nothing.
+use Rattle.verdict.specs.Verdict.{VerdictAnswer}
 use mathlib.Core.Path.{◌≡◌, sym, ap, ◌∙◌}
 use mathlib.Core.List.{List, ◌∷◌, ◌++◌}
 use Prim.Native.Nat.{ℕ, ◌+◌}
@@ -7,7 +8,6 @@ use native.Mathlib.Omega.{arith}
 use lib.ListN.{length, drop_of_length-le}
 use Rattle.std.specs.Prelude.{Some}
 use Rattle.records.specs.declared.BoardMark.{BoardMark}
-use Rattle.verdict.specs.declared.Verdict.{Verdict}
 use Rattle.records.specs.Records.{record_length, head_of, cells_in}
 use Rattle.record_lines.specs.Answers.{board_verdict, line_text}
 use Rattle.records.proofs.RecordKinds.{mark_of, six_or_more, record_whole}
@@ -15,7 +15,7 @@ use Rattle.run.specs.Run.{verdicts, lines}
 use Rattle.run.proofs.Verdicts.{verdicts_whole}
 
 -- the verdict of a whole record with a known mark, by its own bytes
-abbrev pub own_verdict : BoardMark → List ℕ → Verdict
+abbrev pub own_verdict : BoardMark → List ℕ → VerdictAnswer
 own_verdict mark r = board_verdict (head_of mark r) (cells_in r)
 
 module _ (mark : BoardMark) (r rest : List ℕ) (whole : length r ≡ record_length r) (known : mark_of r ≡ Some mark) where

@@ -1,4 +1,5 @@
 -- The text of verdicts, line by line, and their tally: a line and the text of the others; a verdict and the tally of the others. Assumes nothing.
+use Rattle.std.specs.Prelude.{Err}
 use mathlib.Core.Path.{◌≡◌, refl, sym, ap, ◌∙◌}
 use mathlib.Core.Bool.{Bool, true, false, not, cond}
 use mathlib.Core.List.{List, [], ◌∷◌, ◌++◌}
@@ -10,9 +11,7 @@ use lib.ListN.{length, length-append}
 use Rattle.lists.specs.Lists.{bit}
 use Rattle.refusals.specs.declared.Refusal.{Refusal}
 use Rattle.refusals.proofs.FirstFailure.{refusal_not_zero}
-use Rattle.verdict.specs.declared.Verdict.{Verdict}
-use Rattle.verdict.specs.declared.Verdict.TheVariants.{Refused}
-use Rattle.verdict.specs.Verdict.{verdict_number, verdict_yes}
+use Rattle.verdict.specs.Verdict.{VerdictAnswer, verdict_number, verdict_yes}
 use Rattle.text.specs.Text.{decimal}
 use Rattle.record_lines.specs.Answers.{verdict_text, line_text}
 use Rattle.run.specs.declared.Tally.{Tally}
@@ -21,24 +20,24 @@ use Rattle.run.specs.Run.{header, lines, text_from, tally_of, no_tally, tally_su
 -- ---- texts
 
 -- line 0 is the header
-pub text_header : (l : List Verdict) → text_from 0 l ≡ header ++ text_from 1 l
+pub text_header : (l : List VerdictAnswer) → text_from 0 l ≡ header ++ text_from 1 l
 unfolding text_from
 text_header l = refl
 
 -- from line 1 on there are the lines of verdicts
-text_lines : (n : ℕ) (l : List Verdict) → 0 < n → text_from n l ≡ lines n l
+text_lines : (n : ℕ) (l : List VerdictAnswer) → 0 < n → text_from n l ≡ lines n l
 unfolding text_from
 text_lines zero l h = absurd (omega arith)
 text_lines (suc n) l h = refl
 
-pub text_line : (n : ℕ) (v : Verdict) (l : List Verdict) → 0 < n → text_from n (v ∷ l) ≡ line_text n v ++ text_from (n + 1) l
+pub text_line : (n : ℕ) (v : VerdictAnswer) (l : List VerdictAnswer) → 0 < n → text_from n (v ∷ l) ≡ line_text n v ++ text_from (n + 1) l
 text_line n v l h = text_lines n (v ∷ l) h ∙ ap (line_text n v ++◌) (sym (text_lines (n + 1) l (omega arith)))
 
 pub text_none : (n : ℕ) → 0 < n → text_from n [] ≡ []
 text_none n h = text_lines n [] h
 
 -- a line has a byte at least
-pub line_some : (n : ℕ) (v : Verdict) → 1 ≤ length (line_text n v)
+pub line_some : (n : ℕ) (v : VerdictAnswer) → 1 ≤ length (line_text n v)
 unfolding line_text
 line_some n v = omega (arith, length-append (decimal n) (32 ∷ (verdict_text v ++ (10 ∷ []))))
 
@@ -54,7 +53,7 @@ pub tally_right : (a : Tally) → tally_sum a no_tally ≡ a
 tally_right a = rw (add-zero a.yes, add-zero a.no, add-zero a.refused)
 
 -- a verdict counts once at most in each column
-pub tally_one : (v : Verdict) → ((tally_of v).yes ≤ 1) × ((tally_of v).no ≤ 1) × ((tally_of v).refused ≤ 1)
+pub tally_one : (v : VerdictAnswer) → ((tally_of v).yes ≤ 1) × ((tally_of v).no ≤ 1) × ((tally_of v).refused ≤ 1)
 tally_one v = go (eqb (verdict_number v) 0) (verdict_yes v)
   where
     counted : Bool → Bool → Tally
@@ -65,5 +64,5 @@ tally_one v = go (eqb (verdict_number v) 0) (verdict_yes v)
     go true false = (omega arith, omega arith, omega arith)
     go false y = (omega arith, omega arith, omega arith)
 
-pub tally_refused : (r : Refusal) → record { yes = 0; no = 0; refused = 1 } ≡ tally_of (Refused r)
+pub tally_refused : (r : Refusal) → record { yes = 0; no = 0; refused = 1 } ≡ tally_of (Err r)
 tally_refused r = rw (refusal_not_zero r)

@@ -9,7 +9,6 @@ use lib.Seq.{drop-append-le}
 use Rattle.std.specs.Prelude.{None, Some, Ok, Err}
 use Rattle.refusals.specs.declared.Refusal.{Refusal}
 use Rattle.refusals.specs.declared.Refusal.TheVariants.{Mark}
-use Rattle.verdict.specs.declared.Verdict.TheVariants.{Refused}
 use Rattle.records.specs.declared.Head.{Head}
 use Rattle.records.specs.Records.{record_length, record_of, cells_in}
 use Rattle.record_lines.specs.Answers.{board_verdict}
@@ -63,11 +62,11 @@ module _ (input rest : List ℕ) where
       )
 
   -- an unknown mark is the last
-  pub verdicts_mark : record_of input ≡ Err Mark → verdicts (input ++ rest) ≡ Refused Mark ∷ []
+  pub verdicts_mark : record_of input ≡ Err Mark → verdicts (input ++ rest) ≡ Err Mark ∷ []
   verdicts_mark is = verdicts_step (input ++ rest) ∙ rw (mark_beside input rest is)
 
 -- where nothing follows, so is every damaged record
-pub verdicts_damaged : (input : List ℕ) (refusal : Refusal) → record_of input ≡ Err refusal → verdicts input ≡ Refused refusal ∷ []
+pub verdicts_damaged : (input : List ℕ) (refusal : Refusal) → record_of input ≡ Err refusal → verdicts input ≡ Err refusal ∷ []
 verdicts_damaged input refusal is = verdicts_step input ∙ rw is
 
 pub verdicts_end : (input : List ℕ) → record_of input ≡ Ok None → verdicts input ≡ []

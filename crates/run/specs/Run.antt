@@ -3,9 +3,7 @@
 use Rattle.std.specs.Prelude.{Option, None, Some, Result, Ok, Err, not, cond, List, [], ◌∷◌, ◌++◌, ℕ, zero, suc, ◌+◌, eqb, length, drop}
 use Rattle.lists.specs.Lists.{bit}
 use Rattle.refusals.specs.declared.Refusal.{Refusal}
-use Rattle.verdict.specs.declared.Verdict.{Verdict}
-use Rattle.verdict.specs.declared.Verdict.TheVariants.{Refused}
-use Rattle.verdict.specs.Verdict.{verdict_number, verdict_yes}
+use Rattle.verdict.specs.Verdict.{VerdictAnswer, verdict_number, verdict_yes}
 use Rattle.records.specs.declared.Head.{Head}
 use Rattle.records.specs.Records.{record_length, record_of, cells_in}
 use Rattle.record_lines.specs.Answers.{board_verdict, line_text}
@@ -14,18 +12,18 @@ use Rattle.run.specs.declared.Tally.{Tally}
 -- ---- the verdicts of an input
 
 -- by what stands at the front: nothing where the input has ended; a damaged record, refused with 10 or 11, is the last; a whole one is followed by the others
-abbrev pub verdicts_after : Result (Option Head) Refusal → List ℕ → List Verdict → List Verdict
+abbrev pub verdicts_after : Result (Option Head) Refusal → List ℕ → List VerdictAnswer → List VerdictAnswer
 verdicts_after (Ok None) input others = []
-verdicts_after (Err refusal) input others = Refused refusal ∷ []
+verdicts_after (Err refusal) input others = Err refusal ∷ []
 verdicts_after (Ok (Some head)) input others = board_verdict head (cells_in input) ∷ others
 
 -- of at most k records; the next one begins as many bytes on as a record has in all, refused or not
-abbrev pub verdicts_of : ℕ → List ℕ → List Verdict
+abbrev pub verdicts_of : ℕ → List ℕ → List VerdictAnswer
 verdicts_of zero input = []
 verdicts_of (suc k) input = verdicts_after (record_of input) input (verdicts_of k (drop (record_length input) input))
 
 -- an input has fewer records than bytes
-unfoldable pub verdicts : List ℕ → List Verdict
+unfoldable pub verdicts : List ℕ → List VerdictAnswer
 verdicts input = verdicts_of (length input) input
 
 -- ---- the text
@@ -37,12 +35,12 @@ header =
     ∷ 117 ∷ 110 ∷ 100 ∷ 115 ∷ 10 ∷ []
 
 -- the lines of verdicts, numbered from n on
-abbrev pub lines : ℕ → List Verdict → List ℕ
+abbrev pub lines : ℕ → List VerdictAnswer → List ℕ
 lines n [] = []
 lines n (v ∷ l) = line_text n v ++ lines (n + 1) l
 
 -- the text from line n on: line 0 is the header, line 1 that of the first record
-unfoldable pub text_from : ℕ → List Verdict → List ℕ
+unfoldable pub text_from : ℕ → List VerdictAnswer → List ℕ
 text_from zero l = header ++ lines 1 l
 text_from (suc n) l = lines (suc n) l
 
@@ -53,7 +51,7 @@ printed input = text_from 0 (verdicts input)
 -- ---- the summary
 
 -- a verdict counts as yes or as no, and one with a refusal's number as refused
-abbrev pub tally_of : Verdict → Tally
+abbrev pub tally_of : VerdictAnswer → Tally
 tally_of v =
     cond (eqb (verdict_number v) 0)
     (record { yes = bit (verdict_yes v); no = bit (not (verdict_yes v)); refused = 0 })
@@ -66,6 +64,6 @@ abbrev pub tally_sum : Tally → Tally → Tally
 tally_sum a b = record { yes = a.yes + b.yes; no = a.no + b.no; refused = a.refused + b.refused }
 
 -- how many say yes, say no, and refuse
-abbrev pub tally : List Verdict → Tally
+abbrev pub tally : List VerdictAnswer → Tally
 tally [] = no_tally
 tally (v ∷ l) = tally_sum (tally_of v) (tally l)

@@ -1,8 +1,8 @@
 -- Cited by no public contract. What the functions that answer one record are told and tell. Assumes nothing.
+use Rattle.verdict.specs.Verdict.{VerdictAnswer}
 use Rattle.std.specs.Prelude.{Option, None, Some, Result, Ok, Err, ◌≡◌, Bool, true, false, cond, List, ℕ, ◌+◌, ◌-◌, ◌*◌, ◌≤◌, ◌<◌, max, eqb, ltb, length, take}
 use Rattle.refusals.specs.declared.Refusal.{Refusal}
 use Rattle.refusals.specs.Refusals.{refusal_number}
-use Rattle.verdict.specs.declared.Verdict.{Verdict}
 use Rattle.records.specs.declared.Head.{Head}
 use Rattle.records.specs.Records.{record_length, record_of, cells_in}
 use Rattle.record_lines.specs.Answers.{board_verdict, line_text}
@@ -42,7 +42,7 @@ abbrev pub header_part : Part
 header_part = record { read = 0; len = 34; next = 1; tally = no_tally; state = GoesOn }
 
 -- the line of a verdict is written, and so many bytes are read
-abbrev pub line_part : ℕ → Verdict → ℕ → RunState → Part
+abbrev pub line_part : ℕ → VerdictAnswer → ℕ → RunState → Part
 line_part number v size state = record { read = size; len = length (line_text number v); next = number + 1; tally = tally_of v; state = state }
 
 -- a part and, of what it left, another

@@ -81,7 +81,7 @@ enum Next {
     // A damaged record, after whose line the run ends.
     Damage(Refusal),
     // A whole record: its verdict, and how many bytes it has.
-    Board(Verdict, usize),
+    Board(Result<Verdict, Refusal>, usize),
 }
 
 // An empty part: the input's end, or a record may begin in the next part.
@@ -133,16 +133,16 @@ fn nothing_yet(number: usize, state: RunState) -> Part
 }
 
 // A verdict, counted.
-fn tally_of(verdict: Verdict) -> Tally
+fn tally_of(verdict: Result<Verdict, Refusal>) -> Tally
     ensures { result ≡ tally_of verdict }
 {
     match verdict {
-        Verdict::Refused(_) => Tally {
+        Err(_) => Tally {
             refused: 1,
             ..NO_TALLY
         },
-        Verdict::Judged(true, _, _, _) => Tally { yes: 1, ..NO_TALLY },
-        Verdict::Judged(false, _, _, _) => Tally { no: 1, ..NO_TALLY },
+        Ok(Verdict { yes: true, .. }) => Tally { yes: 1, ..NO_TALLY },
+        Ok(Verdict { yes: false, .. }) => Tally { no: 1, ..NO_TALLY },
     }
 }
 
@@ -164,7 +164,13 @@ fn put_header(out: &mut [u8]) -> Part
 }
 
 // The line of a verdict, at the buffer's front.
-fn put_answer(out: &mut [u8], number: usize, verdict: Verdict, size: usize, state: RunState) -> Part
+fn put_answer(
+    out: &mut [u8],
+    number: usize,
+    verdict: Result<Verdict, Refusal>,
+    size: usize,
+    state: RunState,
+) -> Part
     requires { (88 ≤ length out.old) × (number < 18446744073709551615) }
     ensures { AtFront (line_text number verdict) (line_part number verdict size state) result out.new }
 {
@@ -197,7 +203,7 @@ fn answer_one(input: &[u8], ended: bool, number: usize, out: &mut [u8]) -> Part
         Next::Waits => nothing_yet(number, RunState::GoesOn),
         Next::Ended => nothing_yet(number, RunState::Complete),
         Next::Damage(refusal) => {
-            let verdict = Verdict::Refused(refusal);
+            let verdict = Err(refusal);
             put_answer(out, number, verdict, 0, RunState::Stopped(refusal))
         }
         Next::Board(verdict, size) => put_answer(out, number, verdict, size, RunState::GoesOn),

@@ -3,8 +3,8 @@ use Rattle.refusals.proofs.FirstFailure.{refusal_not_zero}
 use Rattle.text.proofs.Writing.{wrote_none, wrote_both}
 use Rattle.board_lines.proofs.verdicts.put_slices.Goals as goal
 
-pub returns-in-Refused : goal.returns-in-Refused
-returns-in-Refused c = rw (c.in-Refused.is, refusal_not_zero) (wrote_none c.args.out.now)
+pub returns-in-Err : goal.returns-in-Err
+returns-in-Err c = rw (c.in-Err.is, refusal_not_zero) (wrote_none c.args.out.now)
 
-pub returns-in-Judged : goal.returns-in-Judged
-returns-in-Judged c = rw c.in-Judged.is (wrote_both (wrote_both c.bytes.ensures c.put_cells.ensures) (wrote_both c.bytes-in-Judged.ensures c.put_rounds.ensures))
+pub returns-in-Ok : goal.returns-in-Ok
+returns-in-Ok c = rw c.in-Ok.is (wrote_both (wrote_both c.bytes.ensures c.put_cells.ensures) (wrote_both c.bytes-in-Ok.ensures c.put_rounds.ensures))
