@@ -1,7 +1,7 @@
 -- What the rules' calls and the table mean to C and Rust: what deductions/specs/Calls.antt and tables/specs/Listed.antt say of the answer holds of the number that is
 -- returned and of the first two counts, where there is room for both. The idea: the counts matter only where the number is 0, and there they are the answer's.
 -- Assumes nothing.
-use Rattle.std.specs.Prelude.{Err, Ok}
+use Rattle.std.specs.Prelude.{Result, Err, Ok}
 use mathlib.Core.Path.{◌≡◌, refl, sym, ap, ◌∙◌}
 use mathlib.Core.List.{List, [], ◌∷◌}
 use Prim.Native.Nat.{ℕ, ◌<◌}
@@ -9,17 +9,18 @@ use native.Mathlib.Omega.{arith}
 use lib.ListN.{length, get_or}
 use Rattle.grid.specs.Window.{flat}
 use Rattle.refusals.specs.declared.Refusal.{Refusal}
-use Rattle.refusals.specs.Refusals.{Accepted, Tested, refusal_number, tested_number}
+use Rattle.refusals.specs.Refusals.{refusal_number, tested_number}
 use Rattle.refusals.proofs.RefusalNumbers.{refusal_numbered}
 use Rattle.deductions.specs.Calls.{SoundCall, CompleteCall}
+use Rattle.deductions.specs.Answers.{safe_count, mine_count}
+use Rattle.deductions.specs.declared.answer.DeductionAnswer.{DeductionAnswer}
 use Rattle.deductions.specs.ByRule.{CompleteBy}
 use Rattle.deductions.specs.declared.Rule.{Rule}
 use Rattle.deductions.specs.declared.Rule.TheVariants.{Direct, Minus, Enumerate}
 use Rattle.tables.specs.declared.TableAnswer.{TableAnswer}
-use Rattle.tables.specs.declared.TableAnswer.TheVariants as table
 use Rattle.tables.specs.Tables.{table_number, table_solutions, table_groups}
 use Rattle.tables.specs.Listed.{TableCall}
-use Rattle.export.specs.Returned.{Returned, returned, laid, answered}
+use Rattle.export.specs.Returned.{Returned, returned, laid, answered, list_counts}
 use Rattle.export.proofs.StoredCounts.{count_stored}
 
 -- two counts are those of an answer, where it is accepted
@@ -63,28 +64,28 @@ module _ {n number a b : ℕ} (after : List ℕ) (is : n ≡ number) (counted : 
 
 -- ---- what a rule's call returns
 
-module _ (t : Tested) (a b : ℕ) (counts : List ℕ) {after : List ℕ} {n : ℕ} (told : returned n [] after ≡ answered t (a ∷ b ∷ []) [] counts) where
+module _ (r : Result DeductionAnswer Refusal) (counts : List ℕ) {after : List ℕ} {n : ℕ} (told : returned n [] after ≡ answered r list_counts [] counts) where
   -- its number is that of the answer, whatever room there is
-  pub returned_number : n ≡ tested_number t
+  pub returned_number : n ≡ tested_number r
   unfolding answered
   returned_number = ap (λ (v : Returned). v.number) told
 
   module _ (room : 1 < length counts) where
-    returned_counts : CountsOf (tested_number t) a b after
+    returned_counts : CountsOf (tested_number r) (safe_count r) (mine_count r) after
     unfolding answered
-    returned_counts = go t told
+    returned_counts = go r told
       where
-        go : (u : Tested) → returned n [] after ≡ answered u (a ∷ b ∷ []) [] counts → CountsOf (tested_number u) a b after
-        go (Ok _) e = laid_counts 0 a b counts (ap (λ (v : Returned). v.counts) e) room
+        go : (u : Result DeductionAnswer Refusal) → returned n [] after ≡ answered u list_counts [] counts → CountsOf (tested_number u) (safe_count u) (mine_count u) after
+        go (Ok v) e = laid_counts 0 v.safe v.mines counts (ap (λ (v : Returned). v.counts) e) room
         go (Err x) e = refusal_numbered x
 
     -- it is sound
-    pub returned_sound : {rows columns : ℕ} {p s m p' s' m' : List ℕ} → SoundCall flat rows columns p s m (tested_number t) a b p' s' m'
+    pub returned_sound : {rows columns : ℕ} {p s m p' s' m' : List ℕ} → SoundCall flat rows columns p s m (tested_number r) (safe_count r) (mine_count r) p' s' m'
         → SoundCall flat rows columns p s m n (get_or after 0 0) (get_or after 1 0) p' s' m'
     returned_sound = sound_counted after returned_number returned_counts
 
     -- and complete
-    pub returned_complete : (rule : Rule) (rows columns : ℕ) (p s m s' m' : List ℕ) → CompleteBy rule flat rows columns p s m (tested_number t) a b s' m'
+    pub returned_complete : (rule : Rule) (rows columns : ℕ) (p s m s' m' : List ℕ) → CompleteBy rule flat rows columns p s m (tested_number r) (safe_count r) (mine_count r) s' m'
         → CompleteBy rule flat rows columns p s m n (get_or after 0 0) (get_or after 1 0) s' m'
     returned_complete Direct rows columns p s m s' m' c = tt
     returned_complete Minus rows columns p s m s' m' c = tt
@@ -92,12 +93,12 @@ module _ (t : Tested) (a b : ℕ) (counts : List ℕ) {after : List ℕ} {n : �
 
 -- ---- what the table's call returns, by the form of its answer
 
-module _ {rows columns : ℕ} {p : List ℕ} {k : ℕ} {t t' : List ℕ} {answer : TableAnswer}
+module _ {rows columns : ℕ} {p : List ℕ} {k : ℕ} {t t' : List ℕ} {answer : Result TableAnswer Refusal}
     (c : TableCall flat rows columns p k t (table_number answer) (table_solutions answer) (table_groups answer) t') where
-  pub refused_table : {x : Refusal} {n : ℕ} (after : List ℕ) → answer ≡ table.Refused x → n ≡ refusal_number x
+  pub refused_table : {x : Refusal} {n : ℕ} (after : List ℕ) → answer ≡ Err x → n ≡ refusal_number x
       → TableCall flat rows columns p k t n (get_or after 0 0) (get_or after 1 0) t'
   refused_table {x} after which is = table_counted after is (refusal_numbered x) (rw which at c)
 
-  pub listed_table : {a b : ℕ} (counts : List ℕ) {after : List ℕ} → answer ≡ table.Listed a b → after ≡ laid (a ∷ b ∷ []) counts → 1 < length counts
-      → TableCall flat rows columns p k t 0 (get_or after 0 0) (get_or after 1 0) t'
-  listed_table {a} {b} counts {after} which is room = table_counted after refl (laid_counts 0 a b counts is room) (rw which at c)
+  pub listed_table : {a : TableAnswer} {n : ℕ} (counts : List ℕ) {after : List ℕ} → answer ≡ Ok a → n ≡ 0 → after ≡ laid (a.solutions ∷ a.groups ∷ []) counts → 1 < length counts
+      → TableCall flat rows columns p k t n (get_or after 0 0) (get_or after 1 0) t'
+  listed_table {a} counts {after} which zero is room = table_counted after zero (laid_counts 0 a.solutions a.groups counts is room) (rw which at c)

@@ -1,6 +1,7 @@
 -- The verdict as C and Rust see it, of a plain board and of one that shows its mine total. Where there is room for two counts, demand 3 holds of them and of the
 -- picture, as the contract of the call in Rattle has it of the answer; where there is room for three, the third, the grade, is 4 exactly where the first says no; and
 -- where there is room for four, the rounds of the cells tell what they tell a caller in Rattle, beside the picture and the fourth. Assumes nothing.
+use Rattle.std.specs.Prelude.{Ok, Err}
 use mathlib.Core.Path.{◌≡◌, refl}
 use mathlib.Core.Logic.{◌↔◌}
 use mathlib.Core.Bool.{Bool, true, false}
@@ -20,9 +21,7 @@ use Rattle.fitting.specs.Demand.{Demand3Among}
 use Rattle.fitting.specs.Passes.{GradedCells}
 use Rattle.enumeration.specs.ThreeRules.{three_rules}
 use Rattle.rounds.proofs.Rounds.{RoundTells}
-use Rattle.verdict.specs.declared.Verdict.{Verdict}
-use Rattle.verdict.specs.declared.Verdict.TheVariants.{Refused, Judged}
-use Rattle.verdict.specs.Verdict.{verdict_number, verdict_values, verdict_yes, verdict_opened, verdict_grade, verdict_rounds, VerdictSeen, is_solvable, is_solvable_total}
+use Rattle.verdict.specs.Verdict.{VerdictAnswer, verdict_number, verdict_values, verdict_yes, verdict_opened, verdict_grade, verdict_rounds, VerdictSeen, is_solvable, is_solvable_total}
 use Rattle.verdict.proofs.Bounds.{grade_tells}
 use Rattle.verdict.proofs.DemandThree.{answer_demand_3}
 use Rattle.verdict.proofs.RoundsTold.{answer_rounds}
@@ -34,21 +33,21 @@ use Rattle.export.proofs.StoredCounts.{count_stored}
 -- ---- of any answer
 
 -- demand 3 of the first two counts
-pub counted_demand_3 : {near : ℕ → List ℕ} {also : List Bool → Bool} {b shown : List ℕ} (counts : List ℕ) {after : List ℕ} {s : ℕ} (v : Verdict)
+pub counted_demand_3 : {near : ℕ → List ℕ} {also : List Bool → Bool} {b shown : List ℕ} (counts : List ℕ) {after : List ℕ} {s : ℕ} (v : VerdictAnswer)
     → (length (verdict_values v) ≡ 4) × Demand3Among near also b s (verdict_yes v) (verdict_opened v) shown → after ≡ laid (verdict_values v) counts → 1 < length counts
     → Demand3Among near also b s (eqb (get_or after 0 0) 1) (get_or after 1 0) shown
 counted_demand_3 counts v (four, meets) is room =
     rw (is, count_stored (verdict_values v) counts 0 (omega (arith, four)) (omega (arith, room)), count_stored (verdict_values v) counts 1 (omega (arith, four)) room) meets
 
 -- the third count is 4 exactly where the first is 0
-graded : (v : Verdict) (counts : List ℕ) → (verdict_number v ≡ 0 → (verdict_grade v ≡ 4) ↔ (verdict_yes v ≡ false)) → verdict_number v ≡ 0 → 2 < length counts
+graded : (v : VerdictAnswer) (counts : List ℕ) → (verdict_number v ≡ 0 → (verdict_grade v ≡ 4) ↔ (verdict_yes v ≡ false)) → verdict_number v ≡ 0 → 2 < length counts
     → (get_or (laid (verdict_values v) counts) 2 0 ≡ 4) ↔ (get_or (laid (verdict_values v) counts) 0 0 ≡ 0)
-graded (Refused r) counts tells answered room = absurd (eqb-false (refusal_number r) 0 (refusal_not_zero r) answered)
-graded (Judged v n grade rounds) counts tells answered room =
-    let values = bit v ∷ n ∷ grade ∷ rounds ∷ [] in
-    rw (count_stored values counts 0 (omega arith) (omega (arith, room)), count_stored values counts 2 (omega arith) room) (go v (tells refl))
+graded (Err r) counts tells answered room = absurd (eqb-false (refusal_number r) 0 (refusal_not_zero r) answered)
+graded (Ok j) counts tells answered room =
+    let values = bit j.yes ∷ j.opened ∷ j.grade ∷ j.rounds ∷ [] in
+    rw (count_stored values counts 0 (omega arith) (omega (arith, room)), count_stored values counts 2 (omega arith) room) (go j.yes (tells refl))
   where
-    go : (v : Bool) → (grade ≡ 4) ↔ (eqb (bit v) 1 ≡ false) → (grade ≡ 4) ↔ (bit v ≡ 0)
+    go : (v : Bool) → (j.grade ≡ 4) ↔ (eqb (bit v) 1 ≡ false) → (j.grade ≡ 4) ↔ (bit v ≡ 0)
     go true (there, back) = (λ e. clash true refl (there e), λ e. absurd (omega (arith, e)))
     go false (there, back) = (λ _. refl, λ _. back refl)
 

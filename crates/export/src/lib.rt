@@ -5,7 +5,6 @@
 #![tactic(auto)]
 
 ghost use Rattle.std.specs.Prelude.{◌≡◌, Bool, List, [], ◌∷◌, ◌<◌, eqb, length, get_or, set};
-ghost use Rattle.lists.specs.Lists.{bit as bit_of};
 ghost use Rattle.grid.specs.Window.{flat, neighbours};
 ghost use Rattle.refusals.specs.Refusals.{Accepted};
 ghost use Rattle.refusals.specs.Tests.{board_tested, deduction_tested, bbbv_tested, start_cell};
@@ -23,15 +22,15 @@ ghost use Rattle.patterns.specs.Answer.{unsolvable_structure};
 ghost use Rattle.bbbv.specs.Groups.{IsBbbv};
 ghost use Rattle.bbbv.specs.Answer.{cal_bbbv};
 ghost use Rattle.verdict.specs.Verdict.{verdict_number, verdict_values, is_solvable, is_solvable_total};
-ghost use Rattle.export.specs.Returned.{returned, laid, answered, frontier_returned, deduction_returned, table_returned, pattern_returned, bbbv_returned, verdict_returned};
+ghost use Rattle.export.specs.Returned.{returned, laid, frontier_returned, deduction_returned, table_returned, pattern_returned, bbbv_returned, verdict_returned};
 
-use bbbv::{BbbvAnswer, cal_bbbv};
+use bbbv::cal_bbbv;
 use deductions::{Rule, deduce};
 use frontier::refresh_matrixs;
-use grid::window::FLAT;
-use patterns::{PatternAnswer, unsolvable_structure};
+use grid::window::Size;
+use patterns::unsolvable_structure;
 use refusals::Refusal;
-use tables::{TableAnswer, cal_all_solution};
+use tables::cal_all_solution;
 use verdict::{Verdict, is_solvable, is_solvable_total};
 
 // A count at its place in the lent slice, where there is room for it.
@@ -43,25 +42,14 @@ fn put_count(counts: &mut [u64], at: usize, value: usize)
     }
 }
 
-// 1 where a test passes, else 0.
-fn bit(passes: bool) -> usize
-    ensures { result ≡ bit_of passes }
+// The counts of an accepted call, which answers 0.
+fn put_counts(values: &[usize], counts: &mut [u64]) -> u8
+    ensures { (result ≡ 0) × (counts.new ≡ laid values.now counts.old) }
 {
-    if passes { 1 } else { 0 }
-}
-
-// A rule's answer: the refusal's number, or 0 and the counts of the two lists.
-fn put_deduction(tested: Result<(), Refusal>, safe: usize, mines: usize, counts: &mut [u64]) -> u8
-    ensures { returned result [] counts.new ≡ answered tested (safe ∷ mines ∷ []) [] counts.old }
-{
-    match tested {
-        Err(refusal) => u8::from(refusal),
-        Ok(()) => {
-            put_count(counts, 0, safe);
-            put_count(counts, 1, mines);
-            0
-        }
+    for (at, &value) in values.iter().enumerate() {
+        put_count(counts, at, value);
     }
+    0
 }
 
 // A rule's call, with its counts.
@@ -82,23 +70,22 @@ fn deduce_counted(
         result (get_or counts.new 0 0) (get_or counts.new 1 0) safe.new mines.new }
     ensures six { RefusesBy rule flat rows columns position.old safe.old mines.old result }
 {
-    let answer = deduce(rule, FLAT, rows, columns, position, safe, mines);
-    let tested = answer.tested;
-    put_deduction(tested, answer.safe, answer.mines, counts)
+    let answer = deduce(rule, Size::flat(rows, columns), position, safe, mines);
+    match answer {
+        Err(refusal) => u8::from(refusal),
+        Ok(lists) => put_counts(&[lists.safe, lists.mines], counts),
+    }
 }
 
-// A verdict's answer: the refusal's number, or 0 and its four counts.
-fn put_verdict(verdict: Verdict, counts: &mut [u64]) -> u8
+// A verdict's answer: the refusal's number, or 0 and its four counts, of which the first is 1 for yes.
+fn put_verdict(verdict: Result<Verdict, Refusal>, counts: &mut [u64]) -> u8
     ensures { (result ≡ verdict_number verdict) × (counts.new ≡ laid (verdict_values verdict) counts.old) }
 {
     match verdict {
-        Verdict::Refused(refusal) => u8::from(refusal),
-        Verdict::Judged(yes, opened, grade, rounds) => {
-            put_count(counts, 0, bit(yes));
-            put_count(counts, 1, opened);
-            put_count(counts, 2, grade);
-            put_count(counts, 3, rounds);
-            0
+        Err(refusal) => u8::from(refusal),
+        Ok(judged) => {
+            let yes = usize::from(judged.yes);
+            put_counts(&[yes, judged.opened, judged.grade, judged.rounds], counts)
         }
     }
 }
@@ -113,17 +100,12 @@ pub extern "C" fn lihvompa_frontier(
 ) -> u8
     ensures { returned result [] counts.new ≡ frontier_returned (refresh_matrixs flat rows columns position.now) counts.old }
 {
-    let answer = refresh_matrixs(FLAT, rows, columns, position);
-    let tested = answer.tested;
-    match tested {
+    match refresh_matrixs(Size::flat(rows, columns), position) {
         Err(refusal) => u8::from(refusal),
-        Ok(()) => {
-            let set = answer.blocks;
-            put_count(counts, 0, set.blocks);
-            put_count(counts, 1, answer.inside_cell);
-            put_count(counts, 2, answer.is_minenum);
-            0
-        }
+        Ok(answer) => put_counts(
+            &[answer.blocks.blocks, answer.inside_cell, answer.is_minenum],
+            counts,
+        ),
     }
 }
 
@@ -214,14 +196,9 @@ pub extern "C" fn lihvompa_table(
     ensures listed { 1 < length counts.old → TableCall flat rows columns position.now block table.old
         result (get_or counts.new 0 0) (get_or counts.new 1 0) table.new }
 {
-    let answer = cal_all_solution(FLAT, rows, columns, position, block, table);
-    match answer {
-        TableAnswer::Refused(refusal) => u8::from(refusal),
-        TableAnswer::Listed(solutions, groups) => {
-            put_count(counts, 0, solutions);
-            put_count(counts, 1, groups);
-            0
-        }
+    match cal_all_solution(Size::flat(rows, columns), position, block, table) {
+        Err(refusal) => u8::from(refusal),
+        Ok(answer) => put_counts(&[answer.solutions, answer.groups], counts),
     }
 }
 
@@ -235,17 +212,9 @@ pub extern "C" fn lihvompa_pattern(
 ) -> u8
     ensures { returned result [] counts.new ≡ pattern_returned (unsolvable_structure rows columns cells.now) counts.old }
 {
-    let answer = unsolvable_structure(rows, columns, cells);
-    match answer {
-        PatternAnswer::Refused(refusal) => u8::from(refusal),
-        PatternAnswer::NotFound => {
-            put_count(counts, 0, 0);
-            0
-        }
-        PatternAnswer::Found => {
-            put_count(counts, 0, 1);
-            0
-        }
+    match unsolvable_structure(rows, columns, cells) {
+        Err(refusal) => u8::from(refusal),
+        Ok(found) => put_counts(&[usize::from(found)], counts),
     }
 }
 
@@ -256,13 +225,9 @@ pub extern "C" fn lihvompa_bbbv(rows: usize, columns: usize, cells: &[u8], count
     ensures bbbv { bbbv_tested flat rows columns cells.now ≡ Accepted → 0 < length counts.old
         → IsBbbv (neighbours flat rows columns) cells.now (get_or counts.new 0 0) }
 {
-    let answer = cal_bbbv(FLAT, rows, columns, cells);
-    match answer {
-        BbbvAnswer::Refused(refusal) => u8::from(refusal),
-        BbbvAnswer::Counted(number) => {
-            put_count(counts, 0, number);
-            0
-        }
+    match cal_bbbv(Size::flat(rows, columns), cells) {
+        Err(refusal) => u8::from(refusal),
+        Ok(number) => put_counts(&[number], counts),
     }
 }
 
@@ -287,9 +252,7 @@ pub extern "C" fn lihvompa_verdict(
         (eqb (get_or counts.new 0 0) 1) (get_or counts.new 1 0) picture.new }
 {
     let verdict = is_solvable(
-        FLAT,
-        rows,
-        columns,
+        Size::flat(rows, columns),
         start_row,
         start_column,
         cells,
