@@ -177,12 +177,14 @@ module _ (edgeless : Bool) (rows columns : ℕ) (p : List ℕ) (board : Board p 
     -- and so are enumeration's
     enumeration_held : (e : Lists) → e ≡ lists_in (rule_answer (enumerated (frontier (neighbours edgeless rows columns) p)))
         → HoldsFound e (enumerated (frontier (neighbours edgeless rows columns) p))
-    unfolding rule_answer
+    unfolding rule_answer lists_of
     enumeration_held e is =
         let bs = frontier near p in
+        let none = enumeration_sound.no_contradiction layout fit in
+        let held : e ≡ lists_of (enumerated bs).safe (enumerated bs).mines = rw none at is in
         record {
-          safe = holds_list near p e.safe (enumerated bs).safe enumeration_sound.safe_among_lem (ap (λ (l : Lists). l.safe) is);
-          mines = holds_list near p e.mines (enumerated bs).mines enumeration_sound.mines_among_lem (ap (λ (l : Lists). l.mines) is);
+          safe = holds_list near p e.safe (enumerated bs).safe enumeration_sound.safe_among_lem (ap (λ (l : Lists). l.safe) held);
+          mines = holds_list near p e.mines (enumerated bs).mines enumeration_sound.mines_among_lem (ap (λ (l : Lists). l.mines) held);
         }
 
     module _ (d : Lists) (direct_is : d ≡ swept_lists (plain_equations (neighbours edgeless rows columns) p)) where

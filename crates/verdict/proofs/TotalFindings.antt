@@ -64,10 +64,10 @@ module _ (near : ℕ → List ℕ) (p : List ℕ) (total : ℕ) where
   unfolding or_else
   rules_at_total e = rw e
 
-  -- what is found with the board's own total, where it is shown
-  pub finds_own : (shown : Bool) (b : List ℕ) {n : ℕ} {r : Finding} → Finds n (rules_at (shown_total shown b) near p) r → Finds n (rules_of shown near b p) r
-  finds_own true b found = found
-  finds_own false b found = found
+-- what is found with the board's own total, where it is shown
+pub finds_own : (near : ℕ → List ℕ) (p : List ℕ) (shown : Bool) (b : List ℕ) {n : ℕ} {r : Finding} → Finds n (rules_at (shown_total shown b) near p) r → Finds n (rules_of shown near b p) r
+finds_own near p true b found = found
+finds_own near p false b found = found
 
 -- which is that of the board's own layout
 pub shown_own : (shown : Bool) (b : List ℕ) (total : ℕ) → shown_total shown b ≡ Some total → count (λ x. x) (own b) ≡ total

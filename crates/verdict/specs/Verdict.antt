@@ -19,8 +19,8 @@ use Rattle.verdict.specs.declared.Verdict.{Verdict}
 abbrev pub VerdictAnswer : Type 0
 VerdictAnswer = Result Verdict Refusal
 
-abbrev pub verdict_of : (yes : Bool) (opened grade rounds : ℕ) → VerdictAnswer
-verdict_of yes opened grade rounds = Ok (record { yes = yes; opened = opened; grade = grade; rounds = rounds })
+abbrev pub verdict_of : Bool → ℕ → ℕ → ℕ → VerdictAnswer
+verdict_of answer n grade rounds = Ok (record { yes = answer; opened = n; grade = grade; rounds = rounds })
 
 -- the number of an answer (SPECIFICATION 3.1): 0, or the refusal's
 abbrev pub verdict_number : VerdictAnswer → ℕ
