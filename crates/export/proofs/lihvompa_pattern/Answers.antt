@@ -20,4 +20,4 @@ returns-in-Err c =
 pub returns-in-Ok : goal.returns-in-Ok
 returns-in-Ok c =
     let counts = c.args.counts.now in
-    by_form (λ (a : Result Bool Refusal). pattern_returned a counts) c.unsolvable_structure.ensures c.in-Ok.is (pattern_laid _ counts c.put_counts.ensures.0 (rw c.from.ensures at c.put_counts.ensures.1))
+    by_form (λ (a : Result Bool Refusal). pattern_returned a counts) c.unsolvable_structure.ensures c.in-Ok.is (pattern_laid _ counts c.put_counts.ensures.0 (rw c.from-in-Ok.ensures at c.put_counts.ensures.1))
