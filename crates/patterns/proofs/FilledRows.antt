@@ -84,30 +84,6 @@ module _ (rows columns : ℕ) (cells : List ℕ) where
         left = λ b h. absurd (omega arith);
       }
 
-  -- the next cell of the row
-  pub filled_put : (g : List (List ℕ)) (i j v : ℕ) → rows ≤ 32 → columns ≤ 32 → i < rows → j < columns → v ≡ mine_mark (cell_of cells (i * columns + j))
-      → Filled rows columns cells i j g → Filled rows columns cells i (j + 1) (put g i j v)
-  filled_put g i j v few_rows few_columns on_rows on_columns ev f =
-      record {
-        square = put_square g i j v f.square (omega arith) (omega arith);
-        off = λ a b ha hb h. put_other g i j v f.square (omega arith) (omega arith) a b (λ p q. h (omega arith) (omega arith)) ∙ f.off a b ha hb h;
-        above = λ a b h k. put_other g i j v f.square (omega arith) (omega arith) a b (λ p q. omega arith) ∙ f.above a b h k;
-        left = λ b h. go b h (ℕ_discrete b j);
-      }
-    where
-      go : (b : ℕ) → b < j + 1 → Dec (b ≡ j) → cell_at (put g i j v) i b ≡ mine_mark (cell_of cells (i * columns + b))
-      go b h (yes e) = rw e (put_same g i j v f.square (omega arith) (omega arith) ∙ ev)
-      go b h (no n) = put_other g i j v f.square (omega arith) (omega arith) i b (λ p q. n q) ∙ f.left b (omega arith)
-
-  -- the row is filled
-  pub filled_row : (g : List (List ℕ)) (i j : ℕ) → columns ≤ j → Filled rows columns cells i j g → Filled rows columns cells (i + 1) 0 g
-  filled_row g i j h f =
-      record { square = f.square; off = f.off; above = λ a b ha hb. go a b ha hb (ℕ_discrete a i); left = λ b k. absurd (omega arith) }
-    where
-      go : (a b : ℕ) → a < i + 1 → b < columns → Dec (a ≡ i) → cell_at g a b ≡ mine_mark (cell_of cells (a * columns + b))
-      go a b ha hb (yes e) = rw e (f.left b (omega arith))
-      go a b ha hb (no n) = f.above a b (omega arith) hb
-
   -- ---- all rows are filled
 
   pub filled_laid : (g : List (List ℕ)) (i : ℕ) → rows ≤ i → Filled rows columns cells i 0 g → Laid rows columns cells g
