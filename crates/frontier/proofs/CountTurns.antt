@@ -9,10 +9,10 @@ use native.Mathlib.Nat.{div-add-mod'}
 use native.Mathlib.Omega.{arith}
 use lib.Dec.{leb}
 use lib.ListN.{length, get_or}
-use borrow.Author.Tests.{le-leb, lt-leb, eq-eqb, ne_eqb}
+use borrow.Author.Tests.{le-leb, eq-eqb, ne_eqb}
 use Rattle.lists.specs.Lists.{range, bit, count, any}
 use Rattle.lists.proofs.Elements.{get_d_any}
-use Rattle.lists.proofs.Members.{range_more, range_none}
+use Rattle.lists.proofs.Members.{range_more}
 use Rattle.grid.specs.Cells.{shows}
 use Rattle.fitting.specs.Equations.{is_closed}
 use Rattle.frontier.specs.Frontier.{inside_cells}
@@ -39,9 +39,6 @@ module _ (p : List ℕ) (c : ℕ) (on : c < length p) where
   pub read_open : get_or p c 0 ≤ 8 → is_open p c ≡ true
   read_open h = rw (← read_shows) (le-leb (get_or p c 0) 8 h)
 
-  pub read_not_open : 8 < get_or p c 0 → is_open p c ≡ false
-  read_not_open h = rw (← read_shows) (lt-leb (get_or p c 0) 8 h)
-
   pub read_closed : get_or p c 0 ≡ 10 → is_closed p c ≡ true
   read_closed h = rw (← read_shows) (eq-eqb (get_or p c 0) 10 h)
 
@@ -54,9 +51,6 @@ module _ (near : ℕ → List ℕ) (p : List ℕ) where
   pub inside_all : inside_from near p 0 ≡ inside_cells near p
   unfolding inside_cells
   inside_all = let all : length p - 0 ≡ length p = omega arith in rw all
-
-  pub inside_none : (c : ℕ) → length p ≤ c → inside_from near p c ≡ 0
-  inside_none c h = rw (range_none c (length p) h)
 
   module _ (c : ℕ) (on : c < length p) where
     inside_next : (t : Bool) → (is_closed p c && none_open_beside near p c) ≡ t → inside_from near p c ≡ bit t + inside_from near p (c + 1)

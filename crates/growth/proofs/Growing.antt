@@ -48,15 +48,6 @@ grow_begins share {left} {n} found cells some long =
       grows = ap (λ (l : List ℕ). grow share n [] l others) (take-suc-set found 0 own (omega arith)) ∙ ap (λ (k : ℕ). grow share k [] (own ∷ []) others) steps;
     }
 
-pub found_begins : {left : List ℕ} {n : ℕ} (found : List ℕ) → Cells left n → 1 ≤ n → length found ≡ 1024 → Cells (set found 0 (get_or left 0 0)) 1
-found_begins {left} found cells some long =
-    let on : get_or left 0 0 < 1024 = found_on cells some refl in
-    record {
-      long = length-set found 0 (get_or left 0 0) ∙ long;
-      few = omega arith;
-      on_board = rw (take-suc-set found 0 (get_or left 0 0) (omega arith), lt-ltb (get_or left 0 0) 1024 on);
-    }
-
 module _ {share : ℕ → ℕ → Bool} {block : Grown} {own k h : ℕ} {left : List ℕ} {n : ℕ} {found : List ℕ} {len : ℕ} (few : len ≤ length found) where
   -- the next source found is x; those that share with it are taken
   pub grow_turn : Growing share block own (suc k) h left n found len → 1 ≤ n → h < len → (x : ℕ) → x ≡ get_or found h 0

@@ -39,22 +39,6 @@ pub record Scanned (f : ℕ → Bool) (l k : List ℕ) (t : ℕ) (left : List �
   pub found_few : len ≤ 1024
   pub found_list : take len found ≡ k ++ reverse (keep f (drop t l))
 
-pub scan_begins : (f : ℕ → Bool) {left : List ℕ} {n : ℕ} {found : List ℕ} {len : ℕ} → Cells left n → Cells found len
-    → Scanned f (take n left) (take len found) n left n found len
-scan_begins f {left} {n} {found} {len} a b =
-    let long : length (take n left) ≡ n = length-take-le n left (omega (arith, a.long, a.few)) in
-    let none : drop n (take n left) ≡ [] = drop_none (take n left) n (omega arith) in
-    let all : take n (take n left) ≡ take n left = ap (λ (i : ℕ). take i (take n left)) (sym long) ∙ take-length (take n left) in
-    record {
-      within = omega arith;
-      left_long = a.long;
-      left_few = a.few;
-      left_list = rw (none, all) (sym (append-nil (take n left)));
-      found_long = b.long;
-      found_few = b.few;
-      found_list = rw none (sym (append-nil (take len found)));
-    }
-
 module _ {f : ℕ → Bool} {l k : List ℕ} {t : ℕ} {left : List ℕ} {n : ℕ} {found : List ℕ} {len : ℕ} (s : Scanned f l k t left n found len) where
   -- what the arrays hold is on the board, as what they held before
   pub scan_cells : all (λ d. ltb d 1024) l ≡ true → all (λ d. ltb d 1024) k ≡ true → Cells left n × Cells found len
@@ -141,12 +125,3 @@ module _ {left : List ℕ} {n : ℕ} (cells : Cells left n) (some : 1 ≤ n) whe
   first_dropped =
       let fits : n ≤ length left = omega (arith, cells.long, cells.few) in
       swap_remove left n 0 0 [] (get_or left 0 0) (drop 1 (take n left)) fits (rest_more left n 0 (get_or left 0 0) fits some refl) refl
-
-  pub first_dropped_cells : Cells (set left 0 (get_or left (n - 1) 0)) (n - 1)
-  first_dropped_cells =
-      let p : ℕ → Bool = λ d. ltb d 1024 in
-      record {
-        long = length-set left 0 (get_or left (n - 1) 0) ∙ cells.long;
-        few = omega (arith, cells.few);
-        on_board = rw first_dropped (all_rotated p (drop 1 (take n left)) (all_drop p 1 (take n left) cells.on_board));
-      }

@@ -1,5 +1,5 @@
--- 32 rows of 32 cells that are filled in reading order, where the board is, and are 255 elsewhere: what a store at a row and a column changes, what the two
--- loops of `lay` have done at each turn, and that rows filled to the end are the board laid out. Assumes nothing.
+-- 32 rows of 32 cells that are filled in reading order, where the board is, and are 255 elsewhere: what the two loops of `lay` have done at each turn, and
+-- that rows filled to the end are the board laid out. Assumes nothing.
 use mathlib.Core.Path.{◌≡◌, refl, sym, ap, ◌∙◌}
 use mathlib.Core.List.{List, []}
 use Prim.Native.Nat.{ℕ, ◌+◌, ◌*◌, ◌≤◌, ◌<◌}
@@ -12,11 +12,7 @@ use Rattle.patterns.specs.Shapes.{mine_mark, among_mines}
 use Rattle.patterns.specs.Walk.{cell_at, Laid}
 use Rattle.patterns.proofs.FramedBoard.{below, after, among_mines_on, among_mines_off}
 
--- ---- a store
-
--- what `g[i][j] = v` leaves
-abbrev pub put : List (List ℕ) → ℕ → ℕ → ℕ → List (List ℕ)
-put g i j v = set g i (set (get_or g i []) j v)
+-- ---- rows of cells
 
 pub record Square (g : List (List ℕ)) : Type 0 where
   pub tall : length g ≡ 32
@@ -28,42 +24,6 @@ square_start v = record { tall = refl; wide = λ a h. ap length (get_or-replicat
 start_cell : (v a b : ℕ) → a < 32 → b < 32 → cell_at (replicate 32 (replicate 32 v)) a b ≡ v
 start_cell v a b h k =
     ap (λ (r : List ℕ). get_or r b 0) (get_or-replicate {A = List ℕ} 32 a (replicate {A = ℕ} 32 v) [] h) ∙ get_or-replicate {A = ℕ} 32 b v 0 k
-
-module _ (g : List (List ℕ)) (i j v : ℕ) (s : Square g) (hi : i < 32) (hj : j < 32) where
-  put_same : cell_at (put g i j v) i j ≡ v
-  put_same =
-      let ti : i < length g = omega (arith, s.tall) in
-      let tj : j < length (get_or g i []) = omega (arith, s.wide i hi) in
-      rw (get_or-set_same g i (set (get_or g i []) j v) [] ti) (get_or-set_same (get_or g i []) j v 0 tj)
-
-  put_row : (a : ℕ) → (a ≡ i → ⊥) → get_or (put g i j v) a [] ≡ get_or g a []
-  put_row a h = get_or-set_other g i a (set (get_or g i []) j v) [] h
-
-  put_beside : (b : ℕ) → (b ≡ j → ⊥) → cell_at (put g i j v) i b ≡ cell_at g i b
-  put_beside b h =
-      let ti : i < length g = omega (arith, s.tall) in
-      rw (get_or-set_same g i (set (get_or g i []) j v) [] ti) (get_or-set_other (get_or g i []) j b v 0 h)
-
-  -- every cell but the one that is written stays
-  put_other : (a b : ℕ) → (a ≡ i → b ≡ j → ⊥) → cell_at (put g i j v) a b ≡ cell_at g a b
-  put_other a b h = go (ℕ_discrete a i)
-    where
-      go : Dec (a ≡ i) → cell_at (put g i j v) a b ≡ cell_at g a b
-      go (no n) = ap (λ (r : List ℕ). get_or r b 0) (put_row a n)
-      go (yes e) = rw e (put_beside b (h e))
-
-  put_square : Square (put g i j v)
-  put_square =
-      record {
-        tall = length-set g i (set (get_or g i []) j v) ∙ s.tall;
-        wide = λ a h. go a h (ℕ_discrete a i);
-      }
-    where
-      go : (a : ℕ) → a < 32 → Dec (a ≡ i) → length (get_or (put g i j v) a []) ≡ 32
-      go a h (no n) = ap length (put_row a n) ∙ s.wide a h
-      go a h (yes e) =
-          let ti : i < length g = omega (arith, s.tall) in
-          rw (e, get_or-set_same g i (set (get_or g i []) j v) [] ti) (length-set (get_or g i []) j v ∙ s.wide i hi)
 
 -- ---- the two loops
 
