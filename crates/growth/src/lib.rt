@@ -16,7 +16,8 @@ fn near_enough(size: Size, c: usize, d: usize) -> bool
     requires { (size.columns ≤ 32) × (c < 1024) × (d < 1024) }
     ensures { result ≡ near_enough size.edgeless size.columns c d }
 {
-    size.edgeless || c.abs_diff(d) <= 2 * size.columns + 2
+    let reach = 2 * size.columns + 2;
+    size.edgeless || d <= c + reach && c <= d + reach
 }
 
 // Takes the sources that share a closed cell with c out of the sources left, the first of which is the block's own and stays.
