@@ -11,61 +11,60 @@ ghost use Rattle.flood.specs.Stack.{held, open_one, open_each, Room};
 
 use grid::window::{Size, wide};
 
-// The opened cells whose neighbours are still to be looked at: the first `len` of an array.
-#[derive(Drop)]
-struct Stack {
-    cells: [u16; 1024],
-    len: usize,
+// Puts a cell on the stack, the first n of an array. The count stands beside the array and not in one struct with it: there each cell would wait for the count to
+// come back from memory.
+fn push(stack: &mut [u16; 1024], n: &mut usize, cell: u16)
+    requires { n.old < 1024 }
+    ensures { (stack.new ≡ set stack.old n.old cell) × (n.new ≡ n.old + 1) }
+{
+    stack[*n] = cell;
+    *n += 1;
 }
 
-impl Stack {
-    fn push(&mut self, cell: u16)
-        requires { self.old.len < 1024 }
-        ensures { self.new ≡ record { cells = set self.old.cells self.old.len cell; len = self.old.len + 1 } }
-    {
-        self.cells[self.len] = cell;
-        self.len += 1;
+// Takes the last cell from the stack.
+fn pop(stack: &[u16; 1024], n: &mut usize) -> Option<u16>
+    requires { n.old ≤ 1024 }
+    ensures empty { IfNone result ((n.old ≡ 0) × (n.new ≡ n.old)) }
+    ensures last { IfSome result (λ cell. (0 < n.old) × (cell ≡ get_or stack.now (n.old - 1) 0) × (n.new ≡ n.old - 1)) }
+{
+    if *n == 0 {
+        return None;
     }
-
-    fn pop(&mut self) -> Option<u16>
-        requires { self.old.len ≤ 1024 }
-        ensures empty { IfNone result ((self.old.len ≡ 0) × (self.new ≡ self.old)) }
-        ensures last { IfSome result (λ cell. (0 < self.old.len) × (cell ≡ get_or self.old.cells (self.old.len - 1) 0)
-            × (self.new ≡ record { cells = self.old.cells; len = self.old.len - 1 })) }
-    {
-        if self.len == 0 {
-            return None;
-        }
-        self.len -= 1;
-        Some(self.cells[self.len])
-    }
+    *n -= 1;
+    Some(stack[*n])
 }
 
 // Opens a cell that is closed and puts it on the stack.
-fn open_cell(board: &[u8], position: &mut [u8], cell: u16, stack: &mut Stack)
-    requires room { Room board.now position.old stack.old.cells stack.old.len }
+fn open_cell(board: &[u8], position: &mut [u8], cell: u16, stack: &mut [u16; 1024], n: &mut usize)
+    requires room { Room board.now position.old stack.old n.old }
     requires cell_in_bounds { cell < length board.now }
-    ensures room_2 { Room board.now position.new stack.new.cells stack.new.len }
-    ensures opened { held position.new stack.new.cells stack.new.len
-        ≡ open_one board.now (held position.old stack.old.cells stack.old.len) cell }
+    ensures room_2 { Room board.now position.new stack.new n.new }
+    ensures opened { held position.new stack.new n.new
+        ≡ open_one board.now (held position.old stack.old n.old) cell }
 {
     let c = wide(cell);
     if position[c] == 10 {
         position[c] = board[c];
-        stack.push(cell);
+        push(stack, n, cell);
     }
 }
 
 // Opens the closed cells of a list.
-fn open_list(board: &[u8], position: &mut [u8], cells: &[u16], stack: &mut Stack)
-    requires room { Room board.now position.old stack.old.cells stack.old.len }
+fn open_list(
+    board: &[u8],
+    position: &mut [u8],
+    cells: &[u16],
+    stack: &mut [u16; 1024],
+    n: &mut usize,
+)
+    requires room { Room board.now position.old stack.old n.old }
     requires on_board { all (λ c. ltb c (length board.now)) cells.now ≡ true }
-    ensures room_2 { Room board.now position.new stack.new.cells stack.new.len }
-    ensures opened { held position.new stack.new.cells stack.new.len
-        ≡ open_each board.now (held position.old stack.old.cells stack.old.len) cells.now }
+    ensures room_2 { Room board.now position.new stack.new n.new }
+    ensures opened { held position.new stack.new n.new
+        ≡ open_each board.now (held position.old stack.old n.old) cells.now }
 {
     for &cell in cells {
-        open_cell(board, position, cell, stack);
+        open_cell(board, position, cell, stack, n);
     }
 }
 
@@ -76,16 +75,14 @@ pub fn refresh_board(size: Size, board: &[u8], position: &mut [u8], cells: &[u16
     requires on_board { all (λ c. ltb c (size.rows * size.columns)) cells.now ≡ true }
     ensures { position.new ≡ open_cells (neighbours_on size) board.now position.old cells.now }
 {
-    let mut stack = Stack {
-        cells: [0; 1024],
-        len: 0,
-    };
-    open_list(board, position, cells, &mut stack);
-    while let Some(cell) = stack.pop() {
+    let mut stack = [0u16; 1024];
+    let mut n = 0;
+    open_list(board, position, cells, &mut stack, &mut n);
+    while let Some(cell) = pop(&stack, &mut n) {
         let c = wide(cell);
         if board[c] == 0 {
             let near = size.neighbours_of(c / size.columns, c % size.columns);
-            open_list(board, position, near.as_slice(), &mut stack);
+            open_list(board, position, near.as_slice(), &mut stack, &mut n);
         }
     }
 }

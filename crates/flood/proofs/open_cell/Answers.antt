@@ -10,7 +10,7 @@ pub returns-then-position-c-eq10 : goal.returns-then-position-c-eq10
 returns-then-position-c-eq10 c =
     let at = c.wide-c.ensures in
     let shut = rw at at c.if-position-c-eq10.true in
-    rw (at, c.push.ensures) record { room_2 = room_pushed _ _ _ _ _ c.requires.room c.requires.cell_in_bounds shut; opened = open_pushed _ _ _ _ _ c.requires.room c.requires.cell_in_bounds shut }
+    rw (at, c.push.ensures.0, c.push.ensures.1) record { room_2 = room_pushed _ _ _ _ _ c.requires.room c.requires.cell_in_bounds shut; opened = open_pushed _ _ _ _ _ c.requires.room c.requires.cell_in_bounds shut }
 
 pub returns-else-position-c-eq10-clause-opened : goal.returns-else-position-c-eq10-clause-opened
 returns-else-position-c-eq10-clause-opened c = open_kept _ _ _ _ _ c.requires.room c.requires.cell_in_bounds (rw c.wide-c.ensures at c.if-position-c-eq10.false)

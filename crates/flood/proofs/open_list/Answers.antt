@@ -14,4 +14,4 @@ loop-cell-preserved c =
 pub returns-clause-opened : goal.returns-clause-opened
 returns-clause-opened c =
     let l = c.loop-cell in
-    rw (each_end c.args.board.now (held l.position l.stack.cells l.stack.len) c.args.cells.now l.cell-index c.loop-cell-test.false) at l.invariant.1
+    rw (each_end c.args.board.now (held l.position l.stack l.n) c.args.cells.now l.cell-index c.loop-cell-test.false) at l.invariant.1

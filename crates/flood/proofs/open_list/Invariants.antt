@@ -5,6 +5,6 @@ use Rattle.flood.proofs.open_list.Given as goal
 
 abbrev pub invariant-loop-cell : goal.invariant-loop-cell
 invariant-loop-cell l =
-    Room l.board l.position l.stack.cells l.stack.len
-    × (open_each l.board (held l.position l.stack.cells l.stack.len) (drop l.cell-index l.cells)
-    ≡ open_each l.board (held l.initial.position l.initial.stack.cells l.initial.stack.len) l.cells)
+    Room l.board l.position l.stack l.n
+    × (open_each l.board (held l.position l.stack l.n) (drop l.cell-index l.cells)
+    ≡ open_each l.board (held l.initial.position l.initial.stack l.initial.n) l.cells)

@@ -10,9 +10,9 @@ use Rattle.flood.proofs.refresh_board.Given as goal
 
 abbrev pub invariant-loop-cell : goal.invariant-loop-cell
 invariant-loop-cell l =
-    Room l.board l.position l.stack.cells l.stack.len
-    × ((p cs : List ℕ) → SoFar (neighbours_on l.size) l.board p cs l.initial.position (waiting (neighbours_on l.size) l.board (take l.initial.stack.len l.initial.stack.cells))
-    → SoFar (neighbours_on l.size) l.board p cs l.position (waiting (neighbours_on l.size) l.board (take l.stack.len l.stack.cells)))
+    Room l.board l.position l.stack l.n
+    × ((p cs : List ℕ) → SoFar (neighbours_on l.size) l.board p cs l.initial.position (waiting (neighbours_on l.size) l.board (take l.initial.n l.initial.stack))
+    → SoFar (neighbours_on l.size) l.board p cs l.position (waiting (neighbours_on l.size) l.board (take l.n l.stack)))
 
 abbrev pub decreases-loop-cell : goal.decreases-loop-cell
-decreases-loop-cell l = l.stack.len + closed l.position
+decreases-loop-cell l = l.n + closed l.position
