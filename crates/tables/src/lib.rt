@@ -37,10 +37,7 @@ fn rows_fit(grouped: &Grouped, order: &[u16; 1024], room: usize) -> bool
     ensures { result ≡ leb (length (tree_at order.now grouped.now.groups grouped.now.sizes grouped.now.columns 0 grouped.now.needs grouped.now.rooms)
         * grouped.now.groups) room }
 {
-    let mut unmet = Unmet {
-        needs: grouped.needs,
-        rooms: grouped.rooms,
-    };
+    let mut unmet = Unmet::at_first(grouped);
     let mut values = [0u8; 1024];
     let most = room / grouped.groups;
     let left = spend(grouped, order, 0, &mut unmet, &mut values, most + 1);
@@ -65,10 +62,7 @@ pub fn put_table(set: &BlockSet, bounds: Bounds, table: &mut [u8]) -> Result<Tab
     if !rows_fit(&grouped, &order, table.len()) {
         return Err(Refusal::Table);
     }
-    let mut unmet = Unmet {
-        needs: grouped.needs,
-        rooms: grouped.rooms,
-    };
+    let mut unmet = Unmet::at_first(&grouped);
     let mut values = [0u8; 1024];
     let solutions = put_rows(&grouped, &order, 0, &mut unmet, &mut values, table, 0);
     Ok(TableAnswer { solutions, groups })

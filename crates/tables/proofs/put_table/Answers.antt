@@ -39,15 +39,17 @@ returns-then-not-rows_fit c =
 pub put_rows-solutions-requires : goal.put_rows-solutions-requires
 put_rows-solutions-requires c =
     let b = block (goal.at.put_rows-solutions-requires c).Start in
+    let first = c.at_first-unmet.ensures in
     record {
       ordered = table_ordered b c.requires.combinable c.combine-grouped.ensures c.weigh-order.ensures;
-      state = table_state b c.requires.combinable c.combine-grouped.ensures;
+      state = rw (first.0, first.1) (table_state b c.requires.combinable c.combine-grouped.ensures);
       at_le_groups = (omega arith, groups_some b c.requires.combinable c.combine-grouped.ensures, length-replicate {A = ℕ} 1024 0);
-      groups_in_bounds = rows_room b c.requires.combinable c.combine-grouped.ensures c.weigh-order.ensures c.if-grouped.false _ (sym c.if-not-rows_fit.ensures);
+      groups_in_bounds = rw (first.0, first.1) (rows_room b c.requires.combinable c.combine-grouped.ensures c.weigh-order.ensures c.if-grouped.false _ (sym c.if-not-rows_fit.ensures));
     }
 
 pub returns : goal.returns
 returns c =
+    let first = c.at_first-unmet.ensures in
     table_listed (block (goal.at.returns c).Start) c.requires.combinable c.combine-grouped.ensures c.weigh-order.ensures
     c.if-grouped.false c.args.table.now (replicate 1024 0) (length-replicate {A = ℕ} 1024 0)
-    (sym c.if-not-rows_fit.ensures) c.put_rows-solutions.ensures.value c.put_rows-solutions.ensures.table_after
+    (sym c.if-not-rows_fit.ensures) (rw (first.0, first.1) at c.put_rows-solutions.ensures.value) (rw (first.0, first.1) at c.put_rows-solutions.ensures.table_after)

@@ -12,7 +12,7 @@ pub overflow_add-most : goal.overflow_add-most
 overflow_add-most c = omega (arith, most_small c.args.room c.args.grouped.now.groups c.requires.groups_nonzero.1)
 
 pub spend-left-requires : goal.spend-left-requires
-spend-left-requires c = record { ordered = c.requires.ordered; state = c.requires.state; at_le_groups = (omega arith, length-replicate {A = ℕ} 1024 0, omega arith) }
+spend-left-requires c = let first = c.at_first-unmet.ensures in record { ordered = c.requires.ordered; state = rw (first.0, first.1) c.requires.state; at_le_groups = (omega arith, length-replicate {A = ℕ} 1024 0, omega arith) }
 
 pub returns : goal.returns
-returns c = ap (ltb 0) c.spend-left.ensures.value ∙ left_where_room c.args.room c.args.grouped.now.groups _ c.requires.groups_nonzero.0
+returns c = let first = c.at_first-unmet.ensures in ap (ltb 0) (rw (first.0, first.1) at c.spend-left.ensures.value) ∙ left_where_room c.args.room c.args.grouped.now.groups _ c.requires.groups_nonzero.0
