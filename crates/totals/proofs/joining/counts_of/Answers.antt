@@ -1,8 +1,7 @@
 -- `totals::joining::counts_of` meets its contract: a block's counts stand between its ends, one place more for it and for each block before it. Assumes nothing.
-use mathlib.Core.Path.{◌≡◌}
-use Prim.Native.Nat.{ℕ, ◌+◌, ◌-◌, ◌≤◌}
+use Prim.Native.Nat.{◌+◌, ◌-◌}
 use native.Mathlib.Omega.{arith}
-use lib.ListN.{length, get_or, take, drop, length-take}
+use lib.ListN.{get_or, drop, length-take}
 use Rattle.blocks.specs.BlockSets.{begin_at}
 use Rattle.totals.proofs.JoinedSets.{set_between}
 use Rattle.totals.proofs.joining.counts_of.Goals as goal

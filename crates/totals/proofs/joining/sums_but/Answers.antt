@@ -1,6 +1,5 @@
 -- `totals::joining::sums_but` meets its contract. The loop's invariant: the array has the sums of the free cells and the blocks before j, but one. Rests on the laws
 -- of joined sets. Assumes nothing.
-use mathlib.Core.Logic.{⊎_elim}
 use Rattle.totals.proofs.JoinedSets.{sums_below, sums_same, blocks_joined, block_left_out}
 use Rattle.totals.proofs.joining.sums_but.Goals as goal
 use Rattle.totals.proofs.joining.sums_but.Goals.{else-j-but, then-j-but}
