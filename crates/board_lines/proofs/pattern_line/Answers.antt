@@ -32,10 +32,10 @@ pub returns-in-Ok-true : goal.returns-in-Ok-true
 unfolding pattern_line
 returns-in-Ok-true c =
     let c' = (goal.at.returns-in-Ok-true c).After-unsolvable_structure in
-    rw (read (goal.at.returns-in-Ok-true c).In-Some, ← told c', c.in-Ok-true.is) c.bytes.ensures
+    rw (read (goal.at.returns-in-Ok-true c).In-Some, ← told c', c.in-Ok-true.is, c.in-Ok-true.field-0-test) c.bytes.ensures
 
 pub returns-in-Ok-false : goal.returns-in-Ok-false
 unfolding pattern_line
 returns-in-Ok-false c =
     let c' = (goal.at.returns-in-Ok-false c).After-unsolvable_structure in
-    rw (read (goal.at.returns-in-Ok-false c).In-Some, ← told c', c.in-Ok-false.is) c.bytes-in-Ok-false.ensures
+    rw (read (goal.at.returns-in-Ok-false c).In-Some, ← told c', c.in-Ok-false.is, c.in-Ok-false.field-0-test) c.bytes-in-Ok-false.ensures
