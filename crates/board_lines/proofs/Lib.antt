@@ -1,2 +1,3 @@
 -- The slices that the verdict is lent for its answer as text.
 pub mod VerdictWritten
+pub mod AnswerWritten

@@ -7,7 +7,6 @@ use mathlib.Core.List.{List, ◌∷◌}
 use Prim.Native.Nat.{ℕ, ◌≤◌, ◌<◌}
 use lib.Dec.{eqb}
 use lib.ListN.{get_or, take}
-use Rattle.std.specs.Prelude.{Some}
 use Rattle.lists.proofs.Tests.{and_left, and_right}
 use Rattle.records.specs.declared.BoardMark.TheVariants.{Plain}
 use Rattle.records.specs.Records.{record_length, cells_in}
@@ -44,7 +43,7 @@ pub data JudgedInTurn : List ℕ → List VerdictAnswer → Type 0 where
   next : (input : List ℕ) (v : VerdictAnswer) (l : List VerdictAnswer) → is_stored input ≡ true → JudgedAfter (take (record_length input) input) v → JudgedInTurn (behind input) l → JudgedInTurn input (v ∷ l)
 
 -- the mark of a stored record is that of a plain board
-stored_plain : (input : List ℕ) → is_stored input ≡ true → mark_of input ≡ Some Plain
+stored_plain : (input : List ℕ) → is_stored input ≡ true → mark_of input ≡ Plain
 stored_plain input h =
     let both = stored_marked input h in
     rw (and_left (eqb (get_or input 0 0) 77) (eqb (get_or input 1 0) 66) both, and_right (eqb (get_or input 0 0) 77) (eqb (get_or input 1 0) 66) both)
@@ -54,7 +53,8 @@ verdicts_front input h =
     let one = take (record_length input) input in
     let plain = stored_plain (first input) (stored_kept one ∙ front_stored input h) in
     ap verdicts (migrated_front input h)
-    ∙ own_bytes Plain (first input) (migrated (behind input)) (first_long input h ∙ sym (size_kept one ∙ front_length input h)) plain
+    ∙ own_bytes (first input) (migrated (behind input)) (first_long input h ∙ sym (size_kept one ∙ front_length input h)) (rw plain)
+    ∙ rw plain
 
 pub judged_in_turn : (input : List ℕ) → JudgedInTurn input (verdicts (migrated input))
 judged_in_turn =

@@ -2,10 +2,12 @@
 -- record. Assumes nothing.
 use Rattle.std.specs.Prelude.{Bool, cond, ◌&&◌, List, [], ◌∷◌, ◌++◌, ℕ, ◌*◌, leb, eqb, replicate}
 use Rattle.grid.specs.Window.{flat}
+use Rattle.std.specs.Prelude.{Err}
+use Rattle.refusals.specs.declared.Refusal.TheVariants.{Mark}
 use Rattle.records.specs.declared.BoardMark.{BoardMark}
-use Rattle.records.specs.declared.BoardMark.TheVariants.{Plain, Total}
+use Rattle.records.specs.declared.BoardMark.TheVariants.{Plain, Total, Unknown}
 use Rattle.records.specs.declared.Head.{Head}
-use Rattle.verdict.specs.Verdict.{VerdictAnswer, verdict_number, verdict_yes, verdict_opened, verdict_grade, verdict_rounds, VerdictSeen, is_solvable, is_solvable_total}
+use Rattle.verdict.specs.Verdict.{VerdictAnswer, verdict_number, verdict_yes, verdict_opened, verdict_grade, verdict_rounds, VerdictSeen, verdict_seen, is_solvable, is_solvable_total}
 use Rattle.text.specs.Text.{decimal}
 
 -- `yes ` and `no `
@@ -31,6 +33,7 @@ picture_size rows columns = cond (leb rows 32 && leb columns 32) (rows * columns
 abbrev pub judged_by : BoardMark → Head → List ℕ → List ℕ → List ℕ → VerdictSeen
 judged_by Plain h cells shown opened_in = is_solvable flat h.rows h.columns h.row h.column cells shown opened_in
 judged_by Total h cells shown opened_in = is_solvable_total h.rows h.columns h.row h.column cells shown opened_in
+judged_by Unknown h cells shown opened_in = verdict_seen (Err Mark) shown opened_in
 
 -- by the head of its record
 abbrev pub verdict_by_mark : Head → List ℕ → List ℕ → List ℕ → VerdictSeen

@@ -92,6 +92,7 @@ pub fn verdict_by_mark(
             picture,
             opened_in,
         ),
+        BoardMark::Unknown => Err(Refusal::Mark),
     }
 }
 

@@ -13,11 +13,12 @@ use lib.ListN.{length, get_or, drop, length-append, length-drop, get_or-append}
 use lib.Seq.{take-append-le, drop-append-le}
 use borrow.Author.Tests.{lt-ltb, le-ltb}
 use Rattle.std.specs.Prelude.{Option, None, Some, Result, Ok, Err}
+use Rattle.lists.proofs.Tests.{Decided, decided}
 use Rattle.refusals.specs.declared.Refusal.{Refusal}
 use Rattle.refusals.specs.declared.Refusal.TheVariants.{Mark, Short}
 use Rattle.records.specs.declared.BoardMark.{BoardMark}
 use Rattle.records.specs.declared.Head.{Head}
-use Rattle.records.specs.Records.{record_length, board_mark, head_of, record_of, cells_in}
+use Rattle.records.specs.Records.{record_length, board_mark, known_mark, head_of, record_of, cells_in}
 
 -- ---- a record's length
 
@@ -60,7 +61,7 @@ length_most input bytes = go (ltb (length input) 6)
 
 -- ---- what a part of the input is
 
-abbrev pub mark_of : List ℕ → Option BoardMark
+abbrev pub mark_of : List ℕ → BoardMark
 mark_of input = board_mark (get_or input 0 0) (get_or input 1 0)
 
 pub record_none : (input : List ℕ) → length input ≡ 0 → Ok None ≡ record_of input
@@ -74,50 +75,49 @@ record_lone [] n h = absurd (n refl)
 record_lone (x ∷ []) n h = refl
 record_lone (x ∷ y ∷ l) n h = absurd (omega arith)
 
-pub record_unknown : (input : List ℕ) → 2 ≤ length input → mark_of input ≡ None → Err Mark ≡ record_of input
+pub record_unknown : (input : List ℕ) → 2 ≤ length input → known_mark (mark_of input) ≡ false → Err Mark ≡ record_of input
 unfolding record_of
 record_unknown [] h m = absurd (omega arith)
 record_unknown (x ∷ []) h m = absurd (omega arith)
 record_unknown (x ∷ y ∷ l) h m = rw m
 
-module _ (mark : BoardMark) where
-  pub record_short : (input : List ℕ) → 2 ≤ length input → mark_of input ≡ Some mark → length input < record_length input → Err Short ≡ record_of input
-  unfolding record_of
-  record_short [] h m s = absurd (omega arith)
-  record_short (x ∷ []) h m s = absurd (omega arith)
-  record_short (x ∷ y ∷ l) h m s = rw (m, lt-ltb (length (x ∷ y ∷ l)) (record_length (x ∷ y ∷ l)) s)
+pub record_short : (input : List ℕ) → 2 ≤ length input → known_mark (mark_of input) ≡ true → length input < record_length input → Err Short ≡ record_of input
+unfolding record_of
+record_short [] h m s = absurd (omega arith)
+record_short (x ∷ []) h m s = absurd (omega arith)
+record_short (x ∷ y ∷ l) h m s = rw (m, lt-ltb (length (x ∷ y ∷ l)) (record_length (x ∷ y ∷ l)) s)
 
-  pub record_whole : (input : List ℕ) → 2 ≤ length input → mark_of input ≡ Some mark → record_length input ≤ length input
-      → Ok (Some (head_of mark input)) ≡ record_of input
-  unfolding record_of
-  record_whole [] h m s = absurd (omega arith)
-  record_whole (x ∷ []) h m s = absurd (omega arith)
-  record_whole (x ∷ y ∷ l) h m s = rw (m, le-ltb (length (x ∷ y ∷ l)) (record_length (x ∷ y ∷ l)) s)
+pub record_whole : (input : List ℕ) → 2 ≤ length input → known_mark (mark_of input) ≡ true → record_length input ≤ length input
+    → Ok (Some (head_of (mark_of input) input)) ≡ record_of input
+unfolding record_of
+record_whole [] h m s = absurd (omega arith)
+record_whole (x ∷ []) h m s = absurd (omega arith)
+record_whole (x ∷ y ∷ l) h m s = rw (m, le-ltb (length (x ∷ y ∷ l)) (record_length (x ∷ y ∷ l)) s)
 
 -- ---- read back from what it is
 
 -- a damaged record is cut short, or has no known mark
 abbrev pub DamagedBy : List ℕ → Refusal → Type 0
-DamagedBy input refusal = ((refusal ≡ Short) × (length input < record_length input)) ⊎ ((refusal ≡ Mark) × (2 ≤ length input) × (mark_of input ≡ None))
+DamagedBy input refusal = ((refusal ≡ Short) × (length input < record_length input)) ⊎ ((refusal ≡ Mark) × (2 ≤ length input) × (known_mark (mark_of input) ≡ false))
 
 -- what each answer tells of the input; a whole record has a known mark, and stands inside
 abbrev Told : List ℕ → Result (Option Head) Refusal → Type 0
 Told input (Ok None) = input ≡ []
 Told input (Err refusal) = DamagedBy input refusal
-Told input (Ok (Some head)) = (mark_of input ≡ Some head.mark) × (record_length input ≤ length input)
+Told input (Ok (Some head)) = (known_mark (mark_of input) ≡ true) × (record_length input ≤ length input)
 
 told : (input : List ℕ) → Told input (record_of input)
 told [] = rw (sym (record_none [] refl)) refl
 told (x ∷ []) = rw (sym (record_lone (x ∷ []) (λ h. omega arith) (omega arith))) (inl (refl, omega (arith, six_or_more (x ∷ []))))
-told (x ∷ y ∷ l) = go (board_mark x y) refl (dec_lt (length (x ∷ y ∷ l)) (record_length (x ∷ y ∷ l)))
+told (x ∷ y ∷ l) = go (decided (known_mark (board_mark x y))) (dec_lt (length (x ∷ y ∷ l)) (record_length (x ∷ y ∷ l)))
   where
     two : 2 ≤ length (x ∷ y ∷ l)
     two = omega arith
 
-    go : (m : Option BoardMark) → board_mark x y ≡ m → Dec (length (x ∷ y ∷ l) < record_length (x ∷ y ∷ l)) → Told (x ∷ y ∷ l) (record_of (x ∷ y ∷ l))
-    go None m s = rw (sym (record_unknown (x ∷ y ∷ l) two m)) (inr (refl, two, m))
-    go (Some mark) m (yes s) = rw (sym (record_short mark (x ∷ y ∷ l) two m s)) (inl (refl, s))
-    go (Some mark) m (no s) = rw (sym (record_whole mark (x ∷ y ∷ l) two m (omega arith))) (m, omega arith)
+    go : Decided (known_mark (board_mark x y)) → Dec (length (x ∷ y ∷ l) < record_length (x ∷ y ∷ l)) → Told (x ∷ y ∷ l) (record_of (x ∷ y ∷ l))
+    go (inr m) s = rw (sym (record_unknown (x ∷ y ∷ l) two m)) (inr (refl, two, m))
+    go (inl m) (yes s) = rw (sym (record_short (x ∷ y ∷ l) two m s)) (inl (refl, s))
+    go (inl m) (no s) = rw (sym (record_whole (x ∷ y ∷ l) two m (omega arith))) (m, omega arith)
 
 module _ (input : List ℕ) where
   pub end_nothing : record_of input ≡ Ok None → input ≡ []
@@ -126,7 +126,7 @@ module _ (input : List ℕ) where
   pub damaged_kinds : (refusal : Refusal) → record_of input ≡ Err refusal → DamagedBy input refusal
   damaged_kinds refusal is = rw is at (told input)
 
-  pub whole_known : (head : Head) → record_of input ≡ Ok (Some head) → (mark_of input ≡ Some head.mark) × (record_length input ≤ length input)
+  pub whole_known : (head : Head) → record_of input ≡ Ok (Some head) → (known_mark (mark_of input) ≡ true) × (record_length input ≤ length input)
   whole_known head is = rw is at (told input)
 
   pub whole_inside : (head : Head) → record_of input ≡ Ok (Some head) → record_length input ≤ length input
@@ -169,13 +169,12 @@ module _ (input rest : List ℕ) where
   whole_beside head is = record {
     same_length = same_length;
     same_record =
-        sym (record_whole head.mark (input ++ rest) (omega (arith, six, longer)) (same ∙ known.0) (omega (arith, same_length, known.1, longer)))
-        ∙ rw (at 2 (omega (arith, six)), at 3 (omega (arith, six)), at 4 (omega (arith, six)), at 5 (omega (arith, six)))
-        (record_whole head.mark input (omega (arith, six)) known.0 known.1);
+        sym (record_whole (input ++ rest) (omega (arith, six, longer)) (rw same known.0) (omega (arith, same_length, known.1, longer)))
+        ∙ rw (same, at 2 (omega (arith, six)), at 3 (omega (arith, six)), at 4 (omega (arith, six)), at 5 (omega (arith, six))) (record_whole input (omega (arith, six)) known.0 known.1);
     same_cells = cells_beside known.1;
   }
     where
-      known : (mark_of input ≡ Some head.mark) × (record_length input ≤ length input)
+      known : (known_mark (mark_of input) ≡ true) × (record_length input ≤ length input)
       known = whole_known input head is
 
       six : 6 ≤ length input
@@ -193,4 +192,4 @@ module _ (input rest : List ℕ) where
     where
       go : DamagedBy input Mark → record_of (input ++ rest) ≡ Err Mark
       go (inl (e, _)) = absurd (cc)
-      go (inr (_, h, m)) = sym (record_unknown (input ++ rest) (omega (arith, h, longer)) (same_mark h ∙ m))
+      go (inr (_, h, m)) = sym (record_unknown (input ++ rest) (omega (arith, h, longer)) (rw (same_mark h) m))

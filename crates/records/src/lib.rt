@@ -3,17 +3,19 @@
 #![tactic(auto)]
 
 ghost use Rattle.std.specs.Prelude.{◌≡◌, ◌≤◌};
-ghost use Rattle.records.specs.Records.{record_length, board_mark, record_of};
+ghost use Rattle.records.specs.Records.{record_length, board_mark, known_mark, record_of};
 
 use refusals::Refusal;
 
-// The marks that are known.
+// What the first two bytes of a record mark: a case for each mark that is known, and one for all others.
 #[derive(Clone, Copy, PartialEq, Eq)]
 pub enum BoardMark {
     // 4D 42: a plain board.
     Plain,
     // 4D 43: a board that shows its mine total.
     Total,
+    // No mark that is known.
+    Unknown,
 }
 
 // The head of a record: its mark, the sides of its board, and its start.
@@ -37,14 +39,24 @@ pub fn record_length(head: &[u8]) -> usize
     6 + usize::from(head[2]) * usize::from(head[3])
 }
 
-// The mark that two bytes are, if it is known.
-pub fn board_mark(first: u8, second: u8) -> Option<BoardMark>
+// The mark that two bytes are.
+pub fn board_mark(first: u8, second: u8) -> BoardMark
     ensures { result ≡ board_mark first second }
 {
     match (first, second) {
-        (b'M', b'B') => Some(BoardMark::Plain),
-        (b'M', b'C') => Some(BoardMark::Total),
-        _ => None,
+        (b'M', b'B') => BoardMark::Plain,
+        (b'M', b'C') => BoardMark::Total,
+        _ => BoardMark::Unknown,
+    }
+}
+
+// Is it a known mark?
+fn is_known(mark: BoardMark) -> bool
+    ensures { result ≡ known_mark mark }
+{
+    match mark {
+        BoardMark::Plain | BoardMark::Total => true,
+        BoardMark::Unknown => false,
     }
 }
 
@@ -59,9 +71,10 @@ pub fn read_record(input: &[u8]) -> Result<Option<Head>, Refusal>
     if input.len() < 2 {
         return Err(Refusal::Short);
     }
-    let Some(mark) = board_mark(input[0], input[1]) else {
+    let mark = board_mark(input[0], input[1]);
+    if !is_known(mark) {
         return Err(Refusal::Mark);
-    };
+    }
     if input.len() < record_length(input) {
         return Err(Refusal::Short);
     }

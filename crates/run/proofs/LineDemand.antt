@@ -8,11 +8,12 @@ use lib.ListN.{length, replicate, length-replicate}
 use Rattle.grid.specs.Window.{flat, neighbours}
 use Rattle.refusals.specs.Tests.{board_tested, start_cell}
 use Rattle.records.specs.declared.BoardMark.{BoardMark}
-use Rattle.records.specs.declared.BoardMark.TheVariants.{Plain, Total}
+use Rattle.refusals.specs.declared.Refusal.TheVariants.{Mark}
+use Rattle.records.specs.declared.BoardMark.TheVariants.{Plain, Total, Unknown}
 use Rattle.records.specs.declared.Head.{Head}
 use Rattle.verdict.specs.Verdict.{VerdictAnswer, is_solvable, MeetsDemand3, is_solvable_total, MeetsDemand3Total}
 use Rattle.verdict.proofs.DemandThree.{answer_demand_3}
-use Rattle.verdict.proofs.Bounds.{GradeTells, grade_tells}
+use Rattle.verdict.proofs.Bounds.{GradeTells, refusal_tells, grade_tells}
 use Rattle.verdict.proofs.TotalAnswers.{TotalGradeTells, total_grade_tells, total_answer_demand_3}
 use Rattle.record_lines.specs.Answers.{picture_size, board_verdict}
 use Rattle.refusals.specs.Refusals.{Accepted}
@@ -21,6 +22,7 @@ use Rattle.refusals.specs.Refusals.{Accepted}
 abbrev pub LineGrade : BoardMark → VerdictAnswer → Type 0
 LineGrade Plain v = GradeTells v
 LineGrade Total v = TotalGradeTells v
+LineGrade Unknown v = GradeTells v
 
 module _ (rows columns row column : ℕ) (b : List ℕ) where
   abbrev marked : BoardMark → Head
@@ -56,3 +58,4 @@ module _ (rows columns row column : ℕ) (b : List ℕ) where
   unfolding board_verdict
   line_grade Plain = grade_tells flat rows columns row column b zeros zeros
   line_grade Total = total_grade_tells rows columns row column b zeros zeros
+  line_grade Unknown = refusal_tells 3 Mark
