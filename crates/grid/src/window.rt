@@ -197,8 +197,48 @@ impl Size {
         self.walk_neighbours(row, column)
     }
 
-    // Does a neighbour of the cell show `value`? The search stops at the first one found.
+    // Does a neighbour of the cell show `value`?
     pub fn shown_beside(self, cells: &[u8], row: usize, column: usize, value: u8) -> bool
+        requires board { Board cells.now self.rows self.columns }
+        requires on { On self.rows self.columns row column }
+        ensures { result ≡ any (λ d. eqb (cell_of cells.now d) value) (neighbours_on self (row * self.columns + column)) }
+    {
+        if is_inner(self.rows, row) && is_inner(self.columns, column) {
+            return self.shown_around(cells, row, column, value);
+        }
+        self.shown_in_window(cells, row, column, value)
+    }
+
+    // The same of a cell of an inner row and an inner column: its neighbours stand at fixed distances, and nothing is folded on either kind of board.
+    fn shown_around(self, cells: &[u8], row: usize, column: usize, value: u8) -> bool
+        requires board { Board cells.now self.rows self.columns }
+        requires on { On self.rows self.columns row column }
+        requires inner { (is_inner self.rows row ≡ true) × (is_inner self.columns column ≡ true) }
+        ensures { result ≡ any (λ d. eqb (cell_of cells.now d) value) (eight_around self.columns (row * self.columns + column)) }
+    {
+        let own = self.cell_number(row, column);
+        let above = own - self.columns;
+        let below = own + self.columns;
+        let near = [
+            above - 1,
+            above,
+            above + 1,
+            own - 1,
+            own + 1,
+            below - 1,
+            below,
+            below + 1,
+        ];
+        for neighbour in near {
+            if cells[neighbour] == value {
+                return true;
+            }
+        }
+        false
+    }
+
+    // The same by walking the cell's window. The search stops at the first one found.
+    fn shown_in_window(self, cells: &[u8], row: usize, column: usize, value: u8) -> bool
         requires board { Board cells.now self.rows self.columns }
         requires on { On self.rows self.columns row column }
         ensures { result ≡ any (λ d. eqb (cell_of cells.now d) value) (neighbours_on self (row * self.columns + column)) }

@@ -6,7 +6,7 @@ use Rattle.lists.specs.Lists.{any, without}
 use Rattle.grid.specs.Cells.{cell_of}
 use Rattle.grid.specs.Window.{neighbours}
 use Rattle.grid.proofs.Walk.{rows_from, cells_from}
-use Rattle.grid.proofs.window.Size.shown_beside.Given as goal
+use Rattle.grid.proofs.window.Size.shown_in_window.Given as goal
 
 abbrev pub invariant-loop-n : goal.invariant-loop-n
 invariant-loop-n l =
