@@ -64,7 +64,7 @@ pub fn read_blocks(size: Size, position: &[u8]) -> BlockSet
         grow_block(size, beside, left, &mut found);
         let part = found.as_slice();
         k = fill_cells(beside, part, &mut places, &mut set.cells, k);
-        fill_equations(
+        e = fill_equations(
             size,
             position,
             beside,
@@ -74,7 +74,6 @@ pub fn read_blocks(size: Size, position: &[u8]) -> BlockSet
             &mut set.rests,
             e,
         );
-        e += part.len();
         set.end_block(k, e);
         drop_first(left);
     }

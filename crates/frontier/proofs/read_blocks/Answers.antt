@@ -55,28 +55,23 @@ fill_cells-k-requires-clause-board_slots c = ((slots (goal.at.fill_cells-k-requi
 pub fill_cells-k-requires-clause-found_bound : goal.fill_cells-k-requires-clause-found_bound
 fill_cells-k-requires-clause-found_bound c = rw c.as_slice-part.ensures (fits (goal.at.fill_cells-k-requires-clause-found_bound c).After-grow_block).cells_room
 
-pub fill_equations-requires-clause-board_slots : goal.fill_equations-requires-clause-board_slots
-fill_equations-requires-clause-board_slots c = ((slots (goal.at.fill_equations-requires-clause-board_slots c).After-read).held, on_board (goal.at.fill_equations-requires-clause-board_slots c).After-as_slice-part)
+pub fill_equations-e-requires-clause-board_slots : goal.fill_equations-e-requires-clause-board_slots
+fill_equations-e-requires-clause-board_slots c = ((slots (goal.at.fill_equations-e-requires-clause-board_slots c).After-read).held, on_board (goal.at.fill_equations-e-requires-clause-board_slots c).After-as_slice-part)
 
-pub fill_equations-requires-clause-places_len : goal.fill_equations-requires-clause-places_len
-fill_equations-requires-clause-places_len c =
-    let room = fits (goal.at.fill_equations-requires-clause-places_len c).After-grow_block in
-    let counted = length_part (goal.at.fill_equations-requires-clause-places_len c).After-as_slice-part in
+pub fill_equations-e-requires-clause-places_len : goal.fill_equations-e-requires-clause-places_len
+fill_equations-e-requires-clause-places_len c =
+    let room = fits (goal.at.fill_equations-e-requires-clause-places_len c).After-grow_block in
+    let counted = length_part (goal.at.fill_equations-e-requires-clause-places_len c).After-as_slice-part in
     (c.fill_cells-k.ensures.placed_2.long, room.slots_long, room.rests_long, rw counted room.equations_room)
 
-pub fill_equations-requires-clause-found_value : goal.fill_equations-requires-clause-found_value
-fill_equations-requires-clause-found_value c = rw c.as_slice-part.ensures (fits (goal.at.fill_equations-requires-clause-found_value c).After-grow_block).are_open
-
-pub overflow_add-e : goal.overflow_add-e
-overflow_add-e c =
-    let counted = length_part (goal.at.overflow_add-e c).After-as_slice-part in
-    omega (arith, counted, (fits (goal.at.overflow_add-e c).After-grow_block).equations_room)
+pub fill_equations-e-requires-clause-found_value : goal.fill_equations-e-requires-clause-found_value
+fill_equations-e-requires-clause-found_value c = rw c.as_slice-part.ensures (fits (goal.at.fill_equations-e-requires-clause-found_value c).After-grow_block).are_open
 
 pub end_block-requires : goal.end_block-requires
 end_block-requires c =
     let room = fits (goal.at.end_block-requires c).After-grow_block in
     let counted = length_part (goal.at.end_block-requires c).After-as_slice-part in
-    (room.block_room, c.fill_cells-k.ensures.placed_2.few, rw counted room.equations_room)
+    (room.block_room, c.fill_cells-k.ensures.placed_2.few, rw (c.fill_equations-e.ensures.value, counted) room.equations_room)
 
 pub loop-left-smaller : goal.loop-left-smaller
 loop-left-smaller c = omega (arith, (fits (goal.at.loop-left-smaller c).After-grow_block).some, c.drop_first.ensures.cells.1, c.grow_block.ensures.le_left.1)
@@ -85,11 +80,11 @@ pub loop-left-preserved : goal.loop-left-preserved
 loop-left-preserved c =
     let told = c.grow_block.ensures in
     let filled = c.fill_cells-k.ensures in
-    let written = c.fill_equations.ensures in
+    let written = c.fill_equations-e.ensures in
     let dropped = c.drop_first.ensures in
     let counted = length_part (goal.at.loop-left-preserved c).After-as_slice-part in
     let part = c.as_slice-part.ensures in
-    rw (c.end_block.ensures, counted) (
+    rw (c.end_block.ensures, written.value, counted) (
       one_more _ c.requires c.read.ensures c.loop-left.invariant.0 c.loop-left-test.true
           told.cells_2.1 told.cells_2.0 told.found_after told.left_after
           filled.placed_2 filled.cells_unchanged (rw part at filled.cells_after) refl (rw part at written.slots_after) (rw part at written.rests_after)
