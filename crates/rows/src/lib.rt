@@ -17,7 +17,10 @@ fn write_row(table: &mut [u8], values: &[u8; 1024], groups: usize)
     requires { (groups ≤ 1024) × (length values.now ≡ 1024) × (groups ≤ length table.old) }
     ensures { table.new ≡ sets table.old 0 (take groups values.now) }
 {
-    table[..groups].copy_from_slice(&values[..groups]);
+    let row = &values[..groups];
+    for (g, &value) in row.iter().enumerate() {
+        table[g] = value;
+    }
 }
 
 // Writes the solutions of the groups from place `at` of the order on, from a row on; returns the row after the last.
