@@ -1,7 +1,7 @@
 -- A rule called on a position, step by step. A refusal by the tests ends the call. Else the frontier is read, which is fit for the rule; what the rule lists are
 -- cells of the frontier, so on the board, and at most as many as it has cells, so that the lent slices have room; and what the caller then sees is the
 -- definition's. Said once for the three rules. Rests on Handed, on ReadFrontier of the crate frontier and on the laws that each rule is sound at a position. Assumes nothing.
-use Rattle.std.specs.Prelude.{Ok, Err}
+use Rattle.std.specs.Prelude.{Result, Ok, Err, IfOk}
 use mathlib.Core.Path.{◌≡◌, sym, ap, ◌∙◌}
 use mathlib.Core.Bool.{Bool}
 use mathlib.Core.List.{List}
@@ -30,7 +30,7 @@ use Rattle.deductions.specs.ByRule.{rule_on}
 use Rattle.deductions.specs.declared.Rule.{Rule}
 use Rattle.deductions.specs.declared.Rule.TheVariants.{Direct, Minus, Enumerate}
 use Rattle.direct.specs.declared.answer.Contradiction.{Contradiction as RuleContradiction}
-use Rattle.deductions.proofs.Handed.{after_contradiction, same_seen, contradiction_answered, struct_found, struct_held}
+use Rattle.deductions.proofs.Handed.{after_contradiction, contradiction_seen, same_seen, contradiction_answered, struct_found, struct_held}
 use Rattle.refusals.specs.Refusals.{Accepted}
 
 -- ---- each rule is sound on a board
@@ -92,3 +92,15 @@ module _ (rule : Rule) (edgeless : Bool) (rows columns : ℕ) (p s m : List ℕ)
       rule_seen =
           let f = rule_on rule (frontier (neighbours edgeless rows columns) p) in
           same_seen (found_in (Ok r)) f p s m (struct_found f r answered whole) ∙ tests_accept tests
+
+    -- what the rule answers can be handed to the caller, or is a contradiction
+    pub held_if_ok : (r : Result RuleAnswer RuleContradiction) → r ≡ rule_answer (rule_on rule (blocks_of set)) → IfOk r (λ (answer : RuleAnswer). Whole answer.left)
+        → IfOk r (λ (answer : RuleAnswer). Held answer (length p) (length s) (length m))
+    held_if_ok (Ok r) is whole = rule_held r is whole
+    held_if_ok (Err e) is whole = tt
+
+    -- and the caller sees what the definition says
+    pub answer_seen : (r : Result RuleAnswer RuleContradiction) → r ≡ rule_answer (rule_on rule (blocks_of set)) → IfOk r (λ (answer : RuleAnswer). Whole answer.left)
+        → after_found (found_in r) p s m ≡ deduction (rule_on rule) edgeless rows columns p s m
+    answer_seen (Ok r) is whole = rule_seen r is whole
+    answer_seen (Err e) is whole = contradiction_seen e p s m ∙ rule_contradicts is

@@ -2,9 +2,9 @@
 -- its block set is whole, its blocks make the same struct again, and a caller sees of blocks only that. So what the caller sees is what the rule found.
 -- Assumes nothing.
 use Rattle.std.specs.Prelude.{Result, Ok, Err}
-use mathlib.Core.Path.{◌≡◌, sym, ap, ◌∙◌}
+use mathlib.Core.Path.{◌≡◌, refl, sym, ap, ◌∙◌}
 use mathlib.Core.Logic.{inl, inr}
-use mathlib.Core.Bool.{true, false}
+use mathlib.Core.Bool.{Bool, true, false, cond}
 use mathlib.Core.List.{List}
 use Prim.Native.Nat.{ℕ, ◌≤◌}
 use native.Mathlib.Omega.{arith}
@@ -13,13 +13,15 @@ use lib.ListN.{length, length-take}
 use lib.Seq.{sets}
 use Rattle.lists.specs.Lists.{all}
 use Rattle.lists.proofs.Tests.{Decided, decided}
+use Rattle.lists.proofs.Arrays.{pad_take}
 use Rattle.refusals.specs.declared.Refusal.TheVariants.{Contradiction}
-use Rattle.blocks.specs.BlockSets.{block_set, Whole}
+use Rattle.blocks.proofs.Reading.{blocks_of_set}
+use Rattle.blocks.specs.BlockSets.{block_set, Small, Whole}
 use Rattle.marks.specs.CellLists.{cell_list, list_in, Below}
 use Rattle.marks.specs.declared.listing.CellList.{CellList}
 use Rattle.marks.specs.Written.{written}
 use Rattle.marks.proofs.HeldLists.{list_held, cell_list_below}
-use Rattle.direct.specs.Found.{Found}
+use Rattle.direct.specs.Found.{Found, contradicted, found}
 use Rattle.direct.specs.Answers.{rule_answer, found_in, lists_of}
 use Rattle.direct.specs.declared.answer.Contradiction.{Contradiction as RuleContradiction}
 use Rattle.direct.specs.declared.answer.RuleAnswer.{RuleAnswer}
@@ -48,7 +50,12 @@ pub record SameAnswer (f g : Found) : Type 0 where
   pub same_mines : f.mines ≡ g.mines
   pub same_left : block_set f.left ≡ block_set g.left
 
--- are the same to a caller
+-- make the same answer
+pub same_struct : (f g : Found) → SameAnswer f g → rule_answer f ≡ rule_answer g
+unfolding rule_answer
+same_struct f g e = rw (e.same_contradiction, e.same_safe, e.same_mines, e.same_left)
+
+-- and are the same to a caller
 pub same_seen : (f g : Found) (p s m : List ℕ) → SameAnswer f g → after_found f p s m ≡ after_found g p s m
 unfolding after_found
 same_seen f g p s m e = rw (e.same_contradiction, e.same_safe, e.same_mines, e.same_left)
@@ -63,6 +70,11 @@ contradiction_answered f {e} is = go (decided f.contradiction)
     go : Decided f.contradiction → f.contradiction ≡ true
     go (inl k) = k
     go (inr k) = let both : ◌≡◌ {A = Result RuleAnswer RuleContradiction} (Err e) (Ok (record { lists = lists_of f.safe f.mines; left = block_set f.left })) = is ∙ rw k in let z : ◌≡◌ {A = ℕ} 0 1 = cc in absurd (omega arith)
+
+-- of a rule that met a contradiction the caller sees refusal 6, and all that was lent as it was
+pub contradiction_seen : (e : RuleContradiction) (p s m : List ℕ) → after_found (found_in (Err e)) p s m ≡ refused Contradiction p s m
+unfolding found_in
+contradiction_seen e p s m = after_contradiction (found_in (Err e)) p s m refl
 
 module _ (f : Found) (r : RuleAnswer) (is : Ok r ≡ rule_answer f) where
   -- else a struct is
@@ -110,7 +122,23 @@ module _ (f : Found) (r : RuleAnswer) (is : Ok r ≡ rule_answer f) where
     left_is = whole.is;
   }
 
--- ---- a struct that is handed to a caller
+-- ---- what a rule found with no contradiction is its lists and its blocks
+no_contradiction_is : (f : Found) → f.contradiction ≡ false → found f.safe f.mines f.left ≡ f
+no_contradiction_is f k = ap (λ (t : Bool). record { contradiction = t; safe = f.safe; mines = f.mines; left = f.left }) (sym k)
+
+-- of blocks that fit the answer holds the very lists and blocks; of a contradiction, that alone
+pub found_in_answer : (f : Found) → Small f.left → found_in (rule_answer f) ≡ cond f.contradiction contradicted f
+unfolding found_in rule_answer lists_of
+found_in_answer f small = go (decided f.contradiction)
+  where
+    go : Decided f.contradiction → found_in (rule_answer f) ≡ cond f.contradiction contradicted f
+    go (inl k) = rw k
+    go (inr k) =
+        let lists : found_in (rule_answer f) ≡ found f.safe f.mines f.left = rw (k, pad_take 1024 0 f.safe, pad_take 1024 0 f.mines, blocks_of_set f.left small) refl in
+        let whole : cond f.contradiction contradicted f ≡ f = rw k refl in
+        lists ∙ no_contradiction_is f k ∙ sym whole
+
+-- a struct that is handed to a caller
 
 -- a list has as many cells as its count says
 pub list_counted : {n : ℕ} {l : CellList} → Below n l → length (list_in l) ≡ l.count

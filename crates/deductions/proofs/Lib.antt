@@ -8,3 +8,5 @@ pub mod SoundCalls
 pub mod Contradictions
 -- what is answered can be read: counts are within the lists, and blocks fit
 pub mod ReadableCalls
+-- The cells between two places, parted.
+pub mod PartedCells

@@ -133,18 +133,26 @@ module _ (f : Found) (p s m : List ℕ) (r : Result DeductionAnswer Refusal) (p'
           }
 
   -- a refusal is its name alone, whoever gives it, and the slices are as they were
-  refused_alone : (t : Tested) → seen r p' s' m' ≡ deduction_after_tests t f p s m → tested_number r ≢ 0 → (x : Refusal) × (seen r p' s' m' ≡ refused x p s m)
-  refused_alone (Err y) e n = (y, e)
-  refused_alone (Ok _) e n = go (decided f.contradiction)
+  refused_some : (t : Tested) → seen r p' s' m' ≡ deduction_after_tests t f p s m → tested_number r ≢ 0 → (x : Refusal) × (seen r p' s' m' ≡ refused x p s m)
+  refused_some (Err y) e n = (y, e)
+  refused_some (Ok _) e n = go (decided f.contradiction)
     where
       go : Decided f.contradiction → (x : Refusal) × (seen r p' s' m' ≡ refused x p s m)
       go (inl k) = (Contradiction, e ∙ after_contradiction f p s m k)
       go (inr k) = absurd (n (ap number_of (e ∙ after_lists f p s m k)))
 
+  -- and it is the refusal that the call answers
+  pub refused_alone : (t : Tested) → seen r p' s' m' ≡ deduction_after_tests t f p s m → (x : Refusal) → r ≡ Err x → seen r p' s' m' ≡ refused x p s m
+  refused_alone t e x a =
+      let (y, alone) = refused_some t e (λ z. refusal_numbered x (sym (ap (λ (u : Result DeductionAnswer Refusal). tested_number u) a) ∙ z)) in
+      let same : ◌≡◌ {A = Result DeductionAnswer Refusal} (Err x) (Err y) = sym a ∙ ap (λ (v : Seen). v.answer) alone in
+      let is : y ≡ x = cc in
+      rw is at alone
+
   -- so a number that is not 0 says that these are kept
   kept : (t : Tested) → seen r p' s' m' ≡ deduction_after_tests t f p s m → tested_number r ≢ 0 → AllKept p s m p' s' m'
   kept t e n =
-      let (x, alone) = refused_alone t e n in
+      let (x, alone) = refused_some t e n in
       record {
         position_kept = ap (λ (v : Seen). v.position) alone;
         safe_kept = ap (λ (v : Seen). v.safe) alone;

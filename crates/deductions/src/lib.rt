@@ -70,10 +70,8 @@ pub fn deduce(
     ensures six { RefusesBy rule size.edgeless size.rows size.columns position.old safe.old mines.old (tested_number result) }
 {
     test_deduction(size, position, safe.len(), mines.len())?;
-    match run_rule(rule, read_blocks(size, position)) {
-        Ok(found) => Ok(give_answer(found, position, safe, mines)),
-        Err(Contradiction) => Err(Refusal::Contradiction),
-    }
+    let found = run_rule(rule, read_blocks(size, position));
+    give_answer(found, position, safe, mines)
 }
 
 // solve_direct on a position: refusals 1 to 3, then 6.

@@ -18,7 +18,7 @@ use Rattle.deductions.specs.Calls.{SoundCall}
 use Rattle.deductions.specs.ByRule.{rule_on, CompleteBy, RefusesBy}
 use Rattle.deductions.specs.declared.Rule.{Rule}
 use Rattle.deductions.specs.declared.answer.DeductionAnswer.{DeductionAnswer}
-use Rattle.deductions.proofs.Deductions.{tests_refuse, rule_contradicts, rule_held, rule_seen}
+use Rattle.deductions.proofs.Deductions.{tests_refuse, held_if_ok, answer_seen}
 use Rattle.deductions.proofs.SoundCalls.{call_sound, call_complete}
 use Rattle.deductions.proofs.Contradictions.{call_refuses_by_rule}
 use Rattle.deductions.proofs.deduce.Goals as goal
@@ -50,31 +50,23 @@ returns-in_err-test_deduction c =
 pub read_blocks-requires : goal.read_blocks-requires
 read_blocks-requires c = (facts c).position.board
 
-pub run_rule-requires : goal.run_rule-requires
-run_rule-requires c =
-    let board = (facts (goal.at.run_rule-requires c).In_ok-test_deduction).position.board in
+pub run_rule-found-requires : goal.run_rule-found-requires
+run_rule-found-requires c =
+    let board = (facts (goal.at.run_rule-found-requires c).In_ok-test_deduction).position.board in
     let read = c.read_blocks.ensures in
     record { whole = read_whole _ _ _ _ board _ read; ready = read_ready _ _ _ _ board _ read; combinable = read_combinable _ _ _ _ board _ read }
 
 pub give_answer-requires : goal.give_answer-requires
 give_answer-requires c =
     let a = c.args in
-    rule_held a.rule a.size.edgeless a.size.rows a.size.columns a.position.now a.safe.now a.mines.now (sym c.in_ok-test_deduction.ensures) c.read_blocks.result c.read_blocks.ensures
-    _ (sym c.in-Ok.is ∙ c.run_rule.ensures.value) (rw c.in-Ok.is at c.run_rule.ensures.left_whole)
+    held_if_ok a.rule a.size.edgeless a.size.rows a.size.columns a.position.now a.safe.now a.mines.now (sym c.in_ok-test_deduction.ensures) c.read_blocks.result c.read_blocks.ensures
+    _ c.run_rule-found.ensures.value c.run_rule-found.ensures.left_whole
 
-pub returns-in-Ok : goal.returns-in-Ok
-returns-in-Ok c =
+pub returns : goal.returns
+returns c =
     let a = c.args in
     let all = clauses a.size.edgeless a.size.rows a.size.columns a.position.now a.safe.now a.mines.now _ _ _ _ a.rule
     (c.give_answer.ensures
-    ∙ rule_seen a.rule a.size.edgeless a.size.rows a.size.columns a.position.now a.safe.now a.mines.now (sym c.in_ok-test_deduction.ensures) c.read_blocks.result c.read_blocks.ensures
-    _ (sym c.in-Ok.is ∙ c.run_rule.ensures.value) (rw c.in-Ok.is at c.run_rule.ensures.left_whole)) in
-    record { mines_after = all.0; sound = all.1.0; complete = all.1.1.0; six = all.1.1.1 }
-
-pub returns-in-Err : goal.returns-in-Err
-returns-in-Err c =
-    let a = c.args in
-    let all = clauses a.size.edgeless a.size.rows a.size.columns a.position.now a.safe.now a.mines.now _ _ _ _ a.rule
-    (rule_contradicts a.rule a.size.edgeless a.size.rows a.size.columns a.position.now a.safe.now a.mines.now (sym c.in_ok-test_deduction.ensures) c.read_blocks.result c.read_blocks.ensures
-    (sym c.in-Err.is ∙ c.run_rule.ensures.value)) in
+    ∙ answer_seen a.rule a.size.edgeless a.size.rows a.size.columns a.position.now a.safe.now a.mines.now (sym c.in_ok-test_deduction.ensures) c.read_blocks.result c.read_blocks.ensures
+    _ c.run_rule-found.ensures.value c.run_rule-found.ensures.left_whole) in
     record { mines_after = all.0; sound = all.1.0; complete = all.1.1.0; six = all.1.1.1 }
