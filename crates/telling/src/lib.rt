@@ -12,13 +12,14 @@ fn words_of(text: &str) -> &str {
 }
 
 // Tells a line: what failed, a colon, and the system's words for the cause.
-pub fn tell_failure<W: Write>(messages: &mut W, what: &str, error: io::Error) {
+pub fn tell_failure<W: Write>(messages: &mut W, what: &[u8], error: io::Error) {
     let mut text = Cursor::new([0u8; 256]);
     let _ = write!(text, "{error}");
     let len = text.position().min(256) as usize;
     let bytes = text.into_inner();
     let cause = str::from_utf8(&bytes[..len]).map_or("", words_of);
-    let _ = writeln!(messages, "{what}: {cause}");
+    let _ = messages.write_all(what);
+    let _ = writeln!(messages, ": {cause}");
 }
 
 // At a terminal nothing is given yet: says what the program waits for.
