@@ -2,10 +2,10 @@
 // step; here they are only moved. A read or a write that fails is told on standard error with its cause.
 #![tactic(auto)]
 
-ghost use Rattle.std.specs.Prelude.{◌≡◌, ◌≤◌, Bool, List, ℕ, length};
+ghost use Rattle.std.specs.Prelude.{◌≡◌, ◌≤◌, ◌<◌, Bool, IfOk, List, None, Ok, ℕ, length, take};
 ghost use Rattle.std.specs.Io.KnownBytes.{Consumes};
 ghost use Rattle.std.specs.List.{FoldsTo};
-ghost use Rattle.inputs.specs.Parts.{TakesAtMost};
+ghost use Rattle.inputs.specs.Parts.{TakesAtMost, TakesSome};
 
 use run::keep_rest;
 use std::fs::File;
@@ -27,11 +27,35 @@ pub fn for_each_part<R: Read, E: Write, F: FnMut(&mut [u8], bool) -> io::Result<
     messages: &mut E,
     program: &str,
     input: &mut [u8],
+    step: F,
+) -> Result<(), Stopped>
+    requires callable { F.IsAlwaysCallable step }
+    requires within { (f : F) (part : _) (ended : Bool) (r : _) (after : _) (next : F) → F.step f part ended r after next → TakesAtMost part.now r }
+    ensures input_len { length input.new ≡ length input.old }
+    ensures wants_no_more { IfOk result (λ _. (f : F) × (part : _) × (ended : Bool) × (after : _) × (next : F) × F.step f part ended (Ok None) after next) }
+{
+    for_each_part_with_room::<0, R, E, F>(reader, messages, program, input, step)
+}
+
+// The same for a step that takes some of a part that has `LEAST` bytes or more, where that is above 0. Then, where the input has as many, there is room for every read, so that
+// one that brings nothing is the input's end.
+pub fn for_each_part_with_room<
+    const LEAST: usize,
+    R: Read,
+    E: Write,
+    F: FnMut(&mut [u8], bool) -> io::Result<Option<usize>>,
+>(
+    reader: &mut R,
+    messages: &mut E,
+    program: &str,
+    input: &mut [u8],
     mut step: F,
 ) -> Result<(), Stopped>
     requires callable { F.IsAlwaysCallable step }
     requires within { (f : F) (part : _) (ended : Bool) (r : _) (after : _) (next : F) → F.step f part ended r after next → TakesAtMost part.now r }
-    ensures { length input.new ≡ length input.old }
+    requires takes_some { (f : F) (part : _) (ended : Bool) (r : _) (after : _) (next : F) → F.step f part ended r after next → TakesSome LEAST part.now r }
+    ensures input_len { length input.new ≡ length input.old }
+    ensures wants_no_more { IfOk result (λ _. (f : F) × (part : _) × (ended : Bool) × (after : _) × (next : F) × F.step f part ended (Ok None) after next) }
 {
     let mut held = 0;
     for _ in 0..u64::MAX {
@@ -60,22 +84,46 @@ pub fn for_each_part<R: Read, E: Write, F: FnMut(&mut [u8], bool) -> io::Result<
 // Tells what failed, and why.
 fn stop<E: Write>(messages: &mut E, program: &str, what: &str, error: io::Error) -> Stopped {
     let _ = write!(messages, "{program}: ");
-    tell_failure(messages, what, error);
+    tell_failure(messages, what.as_bytes(), error);
     Stopped
 }
 
 // Gives a step each byte of an input, in their order, up to the input's end or a read that fails.
-pub fn for_each_byte<R: Read, F: FnMut(u8)>(reader: &mut R, mut step: F)
+pub fn for_each_byte<R: Read, F: FnMut(u8)>(reader: &mut R, step: F)
+    requires { F.IsAlwaysCallable step }
+    ensures { (bytes : List ℕ) × (last : F) × Consumes (R.remaining reader.old) (R.remaining reader.new) bytes × FoldsTo (λ p x q. F.step p x tt q) step bytes last }
+{
+    for_each_byte_of(reader, u64::MAX, step)
+}
+
+// The same of no more than so many parts of an input, each of 65,536 bytes. A part is read whole, as far as the input goes, before the first of its bytes is given.
+pub fn for_each_byte_of<R: Read, F: FnMut(u8)>(reader: &mut R, parts: u64, mut step: F)
     requires { F.IsAlwaysCallable step }
     ensures { (bytes : List ℕ) × (last : F) × Consumes (R.remaining reader.old) (R.remaining reader.new) bytes × FoldsTo (λ p x q. F.step p x tt q) step bytes last }
 {
     let mut part = [0u8; 65536];
-    for _ in 0..u64::MAX {
-        match reader.read(&mut part) {
-            Ok(came) if 0 < came => give_all(&part[..came], &mut step),
-            _ => return,
+    for _ in 0..parts {
+        let came = read_full(reader, &mut part);
+        give_all(&part[..came], &mut step);
+        if came < part.len() {
+            return;
         }
     }
+}
+
+// Reads until the part is full, the input ends or a read fails: how many bytes are in.
+fn read_full<R: Read>(reader: &mut R, part: &mut [u8]) -> usize
+    ensures within { (result ≤ length part.new) × (length part.new ≡ length part.old) }
+    ensures read { Consumes (R.remaining reader.old) (R.remaining reader.new) (take result part.new) }
+{
+    let mut done = 0;
+    while done < part.len() {
+        match reader.read(&mut part[done..]) {
+            Ok(came) if 0 < came => done += came,
+            _ => return done,
+        }
+    }
+    done
 }
 
 // Gives a step each byte of a part.
@@ -97,6 +145,6 @@ pub fn with_file<F: FnOnce(&mut File)>(rt: &HostRuntime, name: &str, step: F)
 {
     match File::open(rt, name) {
         Ok(mut file) => step(&mut file),
-        Err(error) => tell_failure(&mut rt.stderr(), name, error),
+        Err(error) => tell_failure(&mut rt.stderr(), name.as_bytes(), error),
     }
 }

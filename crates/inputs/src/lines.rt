@@ -2,7 +2,7 @@
 // that the line can be named.
 ghost use Rattle.std.specs.Prelude.{◌≡◌, ◌↔◌, ◌≤◌, IsTrue, ℕ, List, [], Option, Some, take, IfSome};
 ghost use Rattle.std.specs.Option.{ForSome, option_map};
-ghost use Rattle.inputs.specs.Lines.{put_within, text_of};
+ghost use Rattle.inputs.specs.Lines.{blanked, put_within, text_of};
 
 use std::marker::Model;
 
@@ -44,6 +44,13 @@ impl<const N: usize> Line<N> {
         ensures { self.new ≡ Some [] }
     {
         self.len = Some(0);
+    }
+
+    // Makes each byte that is in a 0.
+    pub fn blank(&mut self)
+        ensures { self.new ≡ blanked self.old }
+    {
+        self.bytes.fill(0);
     }
 
     // Puts a byte behind those that are in.

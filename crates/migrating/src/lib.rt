@@ -3,10 +3,10 @@
 // that failed with its cause, and then nothing more; else where copying began, and a summary.
 #![tactic(auto)]
 
-ghost use Rattle.std.specs.Prelude.{◌≡◌, ◌≤◌, ◌<◌, length, IfOk, IfSome};
-ghost use Rattle.inputs.specs.Parts.{TakesAtMost};
+ghost use Rattle.std.specs.Prelude.{◌≡◌, ◌≤◌, length};
+ghost use Rattle.inputs.specs.Parts.{TakesAtMost, TakesSome};
 
-use inputs::for_each_part;
+use inputs::for_each_part_with_room;
 use migration::{Counts, counts_after, migrate_part, no_counts};
 use std::io;
 use std::io::{Read, Write};
@@ -27,7 +27,7 @@ fn move_part<W: Write>(
     ended: bool,
 ) -> io::Result<Option<usize>>
     ensures takes { TakesAtMost part.old result }
-    ensures progress { IfOk result (λ moved. IfSome moved (λ len. 65031 ≤ length part.old → 0 < len)) }
+    ensures progress { TakesSome 65031 part.old result }
 {
     let moved = migrate_part(part, progress.copying, ended);
     writer.write_all(&part[..moved.len])?;
@@ -80,9 +80,13 @@ pub fn migrate_stored<R: Read, W: Write, E: Write>(
         copying: false,
         counts: no_counts(),
     };
-    let migrated = for_each_part(reader, messages, "migrate", input, |part, ended| {
-        move_part(writer, &mut progress, part, ended)
-    });
+    let migrated = for_each_part_with_room::<65031, _, _, _>(
+        reader,
+        messages,
+        "migrate",
+        input,
+        |part, ended| { move_part(writer, &mut progress, part, ended) },
+    );
     if migrated.is_ok() {
         tell_end(messages, progress);
     }
