@@ -4,11 +4,11 @@
 #![tactic(auto)]
 
 ghost use Rattle.std.specs.Prelude.{◌≡◌, length};
-ghost use Rattle.replay.specs.Stored.{agreeing, counted, one_more};
+ghost use Rattle.replay.specs.Stored.{agreeing, counted, judged, one_more};
 
 use answers::{Call, call_line};
 use inputs::lines::Line;
-use inputs::{for_each_byte, with_file};
+use inputs::{for_each_byte_of, with_file};
 
 // The calls whose stored answers are run.
 const STORED: [Call; 8] = [
@@ -129,7 +129,7 @@ impl Replay {
 
     // The case has come: it is counted, and named where it differs.
     fn judge<P: Print>(&mut self, rt: &P)
-        ensures { self.new.counts ≡ counted (agreeing self.old.call self.old.asked self.old.answer 65536) self.old.counts }
+        ensures { self.new ≡ judged (agreeing self.old.call self.old.asked self.old.answer 65536) self.new.out self.old }
     {
         let agrees = agrees(self.call, &self.asked, &self.answer, &mut self.out);
         if self.named && !agrees {
@@ -152,38 +152,56 @@ impl Replay {
     }
 }
 
-// Runs a file of a call's answers: the cases by then.
-fn run_file(rt: &HostRuntime, call: Call, name: &str, named: bool, before: Counts) -> Counts {
-    let mut replay = Replay {
-        call,
-        named,
-        coming: Coming::Asked,
-        asked: Line::new(),
-        answer: Line::new(),
-        out: [0; 65536],
-        counts: before,
-    };
-    with_file(rt, name, |file| {
-        for_each_byte(file, |byte| replay.take(rt, byte))
-    });
-    replay.counts
+// So many parts of a file are run, 4 GiB.
+const PARTS: u64 = 65536;
+
+impl Replay {
+    // Before the first case.
+    fn new(call: Call, named: bool) -> Replay {
+        Replay {
+            call,
+            named,
+            coming: Coming::Asked,
+            asked: Line::new(),
+            answer: Line::new(),
+            out: [0; 65536],
+            counts: Counts::new(),
+        }
+    }
+
+    // Runs a file of a call's answers.
+    fn run_file(&mut self, rt: &HostRuntime, name: &str) {
+        with_file(rt, name, |file| {
+            for_each_byte_of(file, PARTS, |byte| self.take(rt, byte))
+        });
+    }
+
+    // Goes over to another call. A case that a file has left unfinished goes on in the next one, where of its lines the lengths are known and the bytes are 0.
+    fn turn_to(&mut self, call: Call) {
+        self.call = call;
+        self.asked.blank();
+        self.answer.blank();
+    }
 }
 
 // Runs the stored answers of a call and says how many agree.
 fn run_call(rt: &HostRuntime, call: Call) {
     let name = call.name();
     let _ = print!(rt; "{name}: ");
-    run_file(rt, call, name, true, Counts::new()).print(rt);
+    let mut replay = Replay::new(call, true);
+    replay.run_file(rt, name);
+    replay.counts.print(rt);
 }
 
 // The control: runs the answers that are wrong, without naming them, and says how many agree.
 fn run_wrong(rt: &HostRuntime) {
-    let mut counts = Counts::new();
+    let mut replay = Replay::new(Call::Frontier, false);
     for (call, name) in WRONG {
-        counts = run_file(rt, call, name, false, counts);
+        replay.turn_to(call);
+        replay.run_file(rt, name);
     }
     let _ = print!(rt; "control: ");
-    counts.print(rt);
+    replay.counts.print(rt);
 }
 
 fn main(rt: HostRuntime) {
