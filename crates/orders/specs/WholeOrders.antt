@@ -1,4 +1,4 @@
--- Orders that begin with some groups, and orders of all groups. Cited by no public contract. Assumes nothing.
+-- Cited by no public contract. Orders that begin with some groups, and orders of all groups. Assumes nothing.
 use Rattle.std.specs.Prelude.{◌≡◌, true, List, ℕ, ◌≤◌, ltb, length, take}
 use Rattle.lists.specs.Lists.{all, nodup}
 use Rattle.orders.specs.declared.Order.{Order}
