@@ -14,6 +14,8 @@ use std::io::{Read, Write};
 use telling::tell_failure;
 
 pub mod lines;
+#[cfg(test)]
+mod tests;
 
 // An input that was not taken to its end; what failed is told.
 #[derive(Clone, Copy, PartialEq, Eq)]
@@ -88,15 +90,30 @@ fn stop<E: Write>(messages: &mut E, program: &str, what: &str, error: io::Error)
     Stopped
 }
 
-// Gives a step each byte of an input, in their order, up to the input's end or a read that fails.
-pub fn for_each_byte<R: Read, F: FnMut(u8)>(reader: &mut R, step: F)
+// Gives a step each byte of an input, in their order, up to the input's end or a read that fails. What a read brings is given before the next read, which has room for 65,536
+// bytes again.
+pub fn for_each_byte<R: Read, F: FnMut(u8)>(reader: &mut R, mut step: F)
+    requires { F.IsAlwaysCallable step }
+    ensures { (bytes : List ℕ) × (last : F) × Consumes (R.remaining reader.old) (R.remaining reader.new) bytes × FoldsTo (λ p x q. F.step p x tt q) step bytes last }
+{
+    let mut part = [0u8; 65536];
+    for _ in 0..u64::MAX {
+        match reader.read(&mut part) {
+            Ok(came) if 0 < came => give_all(&part[..came], &mut step),
+            _ => return,
+        }
+    }
+}
+
+// The same in parts of 65,536 bytes: a part is read whole, as far as the input goes, before the first of its bytes is given.
+pub fn for_each_byte_in_parts<R: Read, F: FnMut(u8)>(reader: &mut R, step: F)
     requires { F.IsAlwaysCallable step }
     ensures { (bytes : List ℕ) × (last : F) × Consumes (R.remaining reader.old) (R.remaining reader.new) bytes × FoldsTo (λ p x q. F.step p x tt q) step bytes last }
 {
     for_each_byte_of(reader, u64::MAX, step)
 }
 
-// The same of no more than so many parts of an input, each of 65,536 bytes. A part is read whole, as far as the input goes, before the first of its bytes is given.
+// The same of no more than `parts` parts.
 pub fn for_each_byte_of<R: Read, F: FnMut(u8)>(reader: &mut R, parts: u64, mut step: F)
     requires { F.IsAlwaysCallable step }
     ensures { (bytes : List ℕ) × (last : F) × Consumes (R.remaining reader.old) (R.remaining reader.new) bytes × FoldsTo (λ p x q. F.step p x tt q) step bytes last }

@@ -5,7 +5,7 @@
 #![tactic(auto)]
 
 use answers::{Call, call_line};
-use inputs::for_each_byte;
+use inputs::for_each_byte_in_parts;
 use inputs::lines::Line;
 use std::env::Env;
 use std::io::{Read, Write};
@@ -53,7 +53,7 @@ fn run<R: Read, W: Write>(reader: &mut R, writer: &mut W, call: Call) {
         line: Line::new(),
         out: [0; 262144],
     };
-    for_each_byte(reader, |byte| asking.take(writer, byte));
+    for_each_byte_in_parts(reader, |byte| asking.take(writer, byte));
     if !asking.line.is_empty() {
         asking.answer(writer);
     }

@@ -1,13 +1,8 @@
 -- `for_each_byte_of` meets its contract: what a part brings follows what was read before, and the step's calls at it follow those before. Assumes nothing.
-use Rattle.std.proofs.Common.{List, [], ◌∷◌, ◌++◌, take}
+use Rattle.std.proofs.Common.{◌++◌, take}
 use Rattle.std.proofs.KnownBytes.{Consumes-trans}
-use Rattle.std.specs.List.{FoldsTo}
+use Rattle.inputs.proofs.Folded.{folds_append}
 use Rattle.inputs.proofs.for_each_byte_of.Goals as goal
-
--- steps over a list, and then over another, are steps over both
-folds_append : {P A : Type 0} (R : P → A → P → Type 0) (p : P) (xs ys : List A) (q r : P) → FoldsTo R p xs q → FoldsTo R q ys r → FoldsTo R p (xs ++ ys) r
-folds_append R p [] ys q r e f = rw e f
-folds_append R p (x ∷ xs) ys q r e f = (e.0, e.1, folds_append R e.0 xs ys q r e.2 f)
 
 pub returns-then-came-lt65536 : goal.returns-then-came-lt65536
 returns-then-came-lt65536 g c =

@@ -1,0 +1,2 @@
+-- Steps over a list and then over another.
+pub mod Folded
